@@ -1,0 +1,7 @@
+use mathlib.Core.Path.{refl}
+use Rattle.jobs.proofs.Listed.{listed-all}
+use Rattle.jobs.proofs.decode.settle.Needs as need
+
+pub returns : need.returns
+returns c =
+    record { kind = refl; numbers = (cc (listed-all 4 (c .args .body .now) (c .pre))); fits = c .four .ok }
