@@ -2,6 +2,8 @@
 use Prim.Native.Nat.{ℕ}
 use Rattle.jobs.specs.declared.kind.Kind.{Kind}
 use Rattle.jobs.specs.declared.kind.Kind.the-variants.{Head, Way, Book, Route, Settle, Total, Prices, Group, Last}
+use Rattle.jobs.specs.declared.section.Section.{Section}
+use Rattle.jobs.specs.declared.section.Section.the-variants.{Heading, Listing, Calls, Sizes}
 
 abbrev pub kind-byte : Kind → ℕ
 kind-byte Head = 1
@@ -25,20 +27,13 @@ body-len Prices = 0
 body-len Group = 6
 body-len Last = 6
 
--- a job has a heading, a listing of its ways and then calls; a grid has sizes alone
-pub data Section : Type 0 where
-  heading : Section
-  listing : Section
-  calls : Section
-  sizes : Section
-
-abbrev pub section : Kind → Section
-section Head = heading
-section Way = listing
-section Book = calls
-section Route = calls
-section Settle = calls
-section Total = calls
-section Prices = calls
-section Group = sizes
-section Last = sizes
+abbrev pub section-of : Kind → Section
+section-of Head = Heading
+section-of Way = Listing
+section-of Book = Calls
+section-of Route = Calls
+section-of Settle = Calls
+section-of Total = Calls
+section-of Prices = Calls
+section-of Group = Sizes
+section-of Last = Sizes

@@ -1,4 +1,6 @@
 pub mod Kinds
 pub mod Bytes
 pub mod Entries
-
+pub mod Refusals
+pub mod Files
+pub mod Reading

@@ -8,7 +8,6 @@ ghost use Rattle.jobs.specs.Kinds.{body-len};
 ghost use lib.ListN.{length};
 use super::entry::Entry;
 use super::kind::Kind;
-use super::record::Record;
 
 fn two(a: u8, b: u8) -> u16
     ensures { λ r. ⌜ two-bytes r ≡ a ∷ b ∷ [] ⌝ }
@@ -83,21 +82,20 @@ fn last(body: &[u8]) -> Entry
     Entry::Last { length: two(*a, *b), count: four(*c, *d, *e, *f) }
 }
 
-impl Record<'_> {
-    // What the record says.
-    pub fn entry(&self) -> Entry
-        ensures { λ r. ⌜ Spells (now (self .entry) .kind) (now (now (self .entry) .body)) r ⌝ }
-    {
-        match self.kind {
-            Kind::Head => head(self.body),
-            Kind::Way => way(self.body),
-            Kind::Book => book(self.body),
-            Kind::Route => Entry::Route,
-            Kind::Settle => settle(self.body),
-            Kind::Total => Entry::Total,
-            Kind::Prices => Entry::Prices,
-            Kind::Group => group(self.body),
-            Kind::Last => last(self.body),
-        }
+// What a record of the kind with this body says.
+pub(crate) fn decode_body(kind: Kind, body: &[u8]) -> Entry
+    requires { ⌜ length (now body) ≡ body-len kind ⌝ }
+    ensures { λ r. ⌜ Spells kind (now (body .entry)) r ⌝ }
+{
+    match kind {
+        Kind::Head => head(body),
+        Kind::Way => way(body),
+        Kind::Book => book(body),
+        Kind::Route => Entry::Route,
+        Kind::Settle => settle(body),
+        Kind::Total => Entry::Total,
+        Kind::Prices => Entry::Prices,
+        Kind::Group => group(body),
+        Kind::Last => last(body),
     }
 }

@@ -1,8 +1,21 @@
+mod check;
 mod decode;
 mod entry;
+mod fault;
+mod form;
 mod kind;
+mod reader;
+mod reading;
 mod record;
+mod refusal;
+mod section;
 
+pub use check::check_file;
 pub use entry::Entry;
+pub use fault::Fault;
+pub use form::Form;
 pub use kind::Kind;
+pub use reader::Reader;
 pub use record::Record;
+pub use refusal::Refusal;
+pub use section::Section;

@@ -1,0 +1,10 @@
+use super::refusal::RefusalDebug;
+use super::refusal::RefusalPartialEq;
+use super::refusal::Refusal;
+
+// A refusal and the place in the file that it is about.
+#[derive(Clone, Copy, PartialEq, Eq, Debug)]
+pub struct Fault {
+    pub refusal: Refusal,
+    pub offset: usize,
+}
