@@ -6,3 +6,4 @@ pub mod Turns
 pub mod Parsed
 pub mod Faults
 pub mod Progress
+pub mod Puts

@@ -26,10 +26,10 @@ pub fewer : (es : List Entry) → length es ≤ length (written es)
 fewer [] = omega arith
 fewer (e ∷ es) = let h = fewer es in simp length-append (omega arith)
 
--- the reader was at the start, and has come to n records of the bytes
-pub record Come (start : Reader) (bytes : List ℕ) (n : ℕ) (r : Reader) : Type 0 where
+-- the reader was at the start, and has handed out records of which P holds
+pub record Come (start : Reader) (bytes : List ℕ) (P : List Entry → Type 0) (r : Reader) : Type 0 where
   pub same : now (r .bytes) ≡ bytes
-  pub read : (f : Form) → Read f [] start → (es : List Entry) × Read f es r × (n ≡ length es)
+  pub read : (f : Form) → Read f [] start → (es : List Entry) × Read f es r × P es
 
 pub first-fault : (f : Form) (bytes : List ℕ) (e : Fault) → Faulty f bytes (e .refusal) (e .offset) → First f bytes e
 first-fault f bytes e x =
@@ -39,26 +39,16 @@ first-fault f bytes e x =
 abbrev pub Turn : Reader → Result (Option Record) Fault → Reader → Type 0
 Turn r x t = (f : Form) (es : List Entry) → Read f es r → Next f es r x t
 
-module _ (start : Reader) (bytes : List ℕ) (n : ℕ) (r t : Reader) (come : Come start bytes n r) where
+module _ (start : Reader) (bytes : List ℕ) (P : List Entry → Type 0) (r t : Reader) (come : Come start bytes P r) where
   -- a record came
   module _ (x : Record) (next : Turn r (Ok (Some x)) t) (f : Form) (at-start : Read f [] start) where
-    step : Comes f (come .read f at-start .0) r t x
-    step = next f (come .read f at-start .0) (come .read f at-start .1)
-
-    pub counted : n + 1 ≤ t .offset
-    counted =
-        let es = come .read f at-start .0 in
-        let c = step in
-        let p = c .read .place in
-        let q = fewer (es ++ x .entry ∷ []) in
-        let m = come .read f at-start .2 in
-        let l = length-append es (x .entry ∷ []) in
-        omega arith
+    pub came : Comes f (come .read f at-start .0) r t x
+    came = next f (come .read f at-start .0) (come .read f at-start .1)
 
     pub nearer : length (now (t .bytes)) - t .offset < length (now (r .bytes)) - r .offset
     nearer =
         let es = come .read f at-start .0 in
-        let c = step in
+        let c = came in
         let p = c .read .place in
         let q = come .read f at-start .1 .place in
         let w = t .within in
@@ -66,12 +56,31 @@ module _ (start : Reader) (bytes : List ℕ) (n : ℕ) (r t : Reader) (come : Co
         let m = ap length (c .same) in
         omega arith
 
-  pub one-more : (x : Record) → Turn r (Ok (Some x)) t → (f : Form) → Read f [] start → Come start bytes (n + 1) t
-  one-more x next f at-start =
-      record {
-        same = step x next f at-start .same ∙ come .same;
-        read = λ g d. (come .read g d .0 ++ x .entry ∷ [], step x next g d .read, (let m = come .read g d .2 in simp length-append (omega arith)));
-      }
+    pub one-more : (Q : List Entry → Type 0) → ((g : Form) (es : List Entry) → Read g es r → P es → Q (es ++ x .entry ∷ [])) → Come start bytes Q t
+    one-more Q more =
+        record {
+          same = came .same ∙ come .same;
+          read = λ g d. (come .read g d .0 ++ x .entry ∷ [], next g (come .read g d .0) (come .read g d .1) .read, more g (come .read g d .0) (come .read g d .1) (come .read g d .2));
+        }
+
+  -- the file ended
+  pub came-to-end : Turn r (Ok None) t → (f : Form) → Read f [] start → (es : List Entry) × Holds f bytes es × P es
+  came-to-end next f at-start =
+      let c = come .read f at-start in
+      (c .0, subst (λ bs. Holds f bs (c .0)) (come .same) (next f (c .0) (c .1) .1), c .2)
+
+  -- a fault came
+  pub came-to-fault : (e : Fault) → Turn r (Err e) t → (f : Form) → Read f [] start → First f bytes e
+  came-to-fault e next f at-start =
+      let c = come .read f at-start in
+      first-fault f bytes e (subst (λ bs. Faulty f bs (e .refusal) (e .offset)) (come .same) (next f (c .0) (c .1) .1))
+
+-- one record more is counted, and the count stays below the offset
+pub counted : (es : List Entry) (x : Entry) (n : ℕ) → n ≡ length es → n + 1 ≡ length (es ++ x ∷ [])
+counted es x n e = simp length-append (omega arith)
+
+pub count-fits : (f : Form) (es : List Entry) (r : Reader) (n : ℕ) → Read f es r → n ≡ length es → n ≤ r .offset
+count-fits f es r n d e = let p = d .place in let q = fewer es in omega arith
 
 -- a turn, by what came
 pub some-came : {r t : Reader} {o : Option Record} (x : Record) → o ≡ Some x → Turn r (Ok o) t → Turn r (Ok (Some x)) t

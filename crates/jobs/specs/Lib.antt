@@ -4,3 +4,4 @@ pub mod Entries
 pub mod Refusals
 pub mod Files
 pub mod Reading
+pub mod Writing

@@ -9,6 +9,7 @@ mod reading;
 mod record;
 mod refusal;
 mod section;
+mod write;
 
 pub use check::check_file;
 pub use entry::Entry;
