@@ -1,4 +1,5 @@
 mod check;
+mod copy;
 mod decode;
 mod entry;
 mod fault;
@@ -12,6 +13,7 @@ mod section;
 mod write;
 
 pub use check::check_file;
+pub use copy::copy_file;
 pub use entry::Entry;
 pub use fault::Fault;
 pub use form::Form;
