@@ -65,11 +65,12 @@ after-record e t xs ys q = q ∙ append-assoc (record-of e) (written t) ys
 pub no-fault : (f : Form) (bytes : List ℕ) (r : Refusal) (o : ℕ) → Faulty f bytes r o → Good f bytes → ⊥
 no-fault f bytes _ _ (too-long l) (es, h) = let s = h .short in omega arith
 no-fault f bytes _ _ (after ds rest r b w) (es, h) =
-    elim (one-goes-on ds es rest [] (b .fits) (h .fits) (sym (b .spelled) ∙ h .spelled ∙ sym (append-nil (written es))))
-      [ inl ([], a, p, q) ↦ not-wrong-at-end f ds rest r w q (subst (Lawful f) (p ∙ append-nil ds) (h .lawful))
+    elim (one-goes-on ds es rest [] (b .fits) (h .fits) (sym (b .spelled) ∙ h .spelled ∙ sym (append-nil (written es)))) [
+      | inl ([], a, p, q) ↦ not-wrong-at-end f ds rest r w q (subst (Lawful f) (p ∙ append-nil ds) (h .lawful))
       | inl (e ∷ t, a, p, q) ↦ stuck f ds rest _ r e w (after-record e t rest [] q) (in-place f ds es t e p (h .lawful))
       | inr ([], a, p, q) ↦ not-wrong-at-end f ds rest r w (sym q) (subst (Lawful f) (sym (append-nil es) ∙ sym p) (h .lawful))
-      | inr (e ∷ t, a, p, q) ↦ let z : _≡_ {A = ℕ} 0 1 = cc in omega arith ]
+      | inr (e ∷ t, a, p, q) ↦ let z : _≡_ {A = ℕ} 0 1 = cc in omega arith
+    ]
 
 -- two faults of one file are after the same records
 meet : (f : Form) (es ds : List Entry) (xs ys : List ℕ) (r q : Refusal) → Wrong f es xs r → Wrong f ds ys q → (more : List Entry) × Lawful f (ds ++ more) →
@@ -85,6 +86,7 @@ one-fault f bytes _ _ _ _ (too-long l) (too-long m) = (refl, refl)
 one-fault f bytes _ _ _ _ (too-long l) (after es rest r b w) = absurd (let s = b .short in omega arith)
 one-fault f bytes _ _ _ _ (after es rest r b w) (too-long l) = absurd (let s = b .short in omega arith)
 one-fault f bytes _ _ _ _ (after es xs r b w) (after ds ys q c v) =
-    elim (one-goes-on es ds xs ys (b .fits) (c .fits) (sym (b .spelled) ∙ c .spelled))
-      [ inl (t, a, p, e) ↦ let m = meet f es ds xs ys r q w v (c .lawful) t p e in (m .0, ap (λ cs. length (written cs)) (m .1))
-      | inr (t, a, p, e) ↦ let m = meet f ds es ys xs q r v w (b .lawful) t p e in (sym (m .0), ap (λ cs. length (written cs)) (sym (m .1))) ]
+    elim (one-goes-on es ds xs ys (b .fits) (c .fits) (sym (b .spelled) ∙ c .spelled)) [
+      | inl (t, a, p, e) ↦ let m = meet f es ds xs ys r q w v (c .lawful) t p e in (m .0, ap (λ cs. length (written cs)) (m .1))
+      | inr (t, a, p, e) ↦ let m = meet f ds es ys xs q r v w (b .lawful) t p e in (sym (m .0), ap (λ cs. length (written cs)) (sym (m .1)))
+    ]

@@ -7,3 +7,4 @@ pub mod Parsed
 pub mod Faults
 pub mod Progress
 pub mod Puts
+pub mod Lined

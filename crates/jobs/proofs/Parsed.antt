@@ -135,6 +135,7 @@ one-goes-on (x ∷ es) [] xs ys f g e = inr (x ∷ es, f, refl, sym e)
 one-goes-on (x ∷ es) (y ∷ ds) xs ys f g e =
     let r = one-record x y (written es ++ xs) (written ds ++ ys) (f .0) (g .0) (sym (append-assoc (record-of x) (written es) xs) ∙ e ∙ append-assoc (record-of y) (written ds) ys) in
     let h = r .0 in
-    elim (one-goes-on es ds xs ys (f .1) (g .1) (r .1))
-      [ inl (t, a, p, q) ↦ inl (t, a, (cc), q)
-      | inr (t, a, p, q) ↦ inr (t, a, (cc), q) ]
+    elim (one-goes-on es ds xs ys (f .1) (g .1) (r .1)) [
+      | inl (t, a, p, q) ↦ inl (t, a, (cc), q)
+      | inr (t, a, p, q) ↦ inr (t, a, (cc), q)
+    ]

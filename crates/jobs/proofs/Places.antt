@@ -129,8 +129,8 @@ head-more es e d i =
       ways = ways-due (ways-told e);
       after = [];
       whole =
-        head-first (h .0) (ways-told e) es (ways-due (ways-told e)) e d (h .1) (sym (length-ways-due (ways-told e)))
-        ∙ ap (λ ws. entry.Head (h .0) (length (ways-due (ways-told e))) ∷ ws) (sym (append-nil (ways-due (ways-told e))));
+          head-first (h .0) (ways-told e) es (ways-due (ways-told e)) e d (h .1) (sym (length-ways-due (ways-told e)))
+          ∙ ap (λ ws. entry.Head (h .0) (length (ways-due (ways-told e))) ∷ ws) (sym (append-nil (ways-due (ways-told e))));
       listed = ways-due-listed (ways-told e);
       called = tt;
     }
@@ -233,7 +233,7 @@ due-after form.Job Head es e d i =
 due-after form.Job (Ways left) es e d i =
     listing-due (left - 1) (es ++ e ∷ [])
     (λ z. made-whole (d .places) (length (d .ways) + left) es (d .ways) (e ∷ []) (d .ways ++ e ∷ []) (d .whole)
-      (let some = d .some in simp length-append (omega arith)) refl (all-push _ (d .ways) e (d .listed) i))
+    (let some = d .some in simp length-append (omega arith)) refl (all-push _ (d .ways) e (d .listed) i))
     (λ l. record { places = d .places; ways = d .ways ++ e ∷ []; whole = (let n : length (d .ways) + left ≡ length (d .ways ++ e ∷ []) + (left - 1) = simp length-append (omega arith) in cc (d .whole)); listed = all-push _ (d .ways) e (d .listed) i; some = l })
 due-after form.Job Calls es e d i = calls-more es e d i
 due-after form.Job Sizes es e d i = absurd d

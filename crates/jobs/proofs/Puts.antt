@@ -21,8 +21,8 @@ put-on t table xs ys o e p =
     let front : take o table ≡ xs = ap (λ zs. take o zs) e ∙ take-at xs d o (sym p) in
     let n : (0 + length xs) + length ys ≡ 0 + length (xs ++ ys) = simp length-append (omega arith) in
     let back : drop (o + length ys) table ≡ drop (0 + length (xs ++ ys)) t =
-      sym (drop-drop (length ys) o table) ∙ ap (drop (length ys)) (ap (drop o) e ∙ drop-at xs d o (sym p))
-      ∙ drop-drop (length ys) (0 + length xs) t ∙ ap (λ m. drop m t) n in
+    sym (drop-drop (length ys) o table) ∙ ap (drop (length ys)) (ap (drop o) e ∙ drop-at xs d o (sym p))
+    ∙ drop-drop (length ys) (0 + length xs) t ∙ ap (λ m. drop m t) n in
     ap (λ zs. zs ++ (ys ++ drop (o + length ys) table)) front ∙ ap (λ zs. xs ++ (ys ++ zs)) back ∙ sym (append-assoc xs ys _)
 
 pub put-none : (t : List ℕ) → t ≡ put-at t 0 []

@@ -78,7 +78,7 @@ module _ (f : Form) (es : List Entry) (r : Reader) (rd : Read f es r) (short : l
 
       -- the bytes from here on begin with the record
       module _ (e : Entry) (n : ℕ) (long : n ≡ body-len k) (m : n ≤ length (rest-of (now (r .bytes)) (r .offset)))
-               (says : Spells k (take (n - 0) (rest-of (now (r .bytes)) (r .offset))) e) where
+          (says : Spells k (take (n - 0) (rest-of (now (r .bytes)) (r .offset))) e) where
         body-here : body-of e ≡ take n (rest-of (now (r .bytes)) (r .offset))
         body-here = says .numbers ∙ ap (λ i. take i (rest-of (now (r .bytes)) (r .offset))) (omega arith)
 
@@ -108,5 +108,5 @@ module _ (f : Form) (es : List Entry) (r : Reader) (rd : Read f es r) (short : l
               spelled = (let w = whole in cc (w, tb, to));
               place = to ∙ sym (ap length (written-push es e) ∙ length-append (written es) (record-of e) ∙ omega arith);
               due =
-                subst (λ s. Due f s (es ++ e ∷ [])) (sym ts) (due-after f (r .stage) es e (rd .due) (ap section-of (says .kind) ∙ i));
+                  subst (λ s. Due f s (es ++ e ∷ [])) (sym ts) (due-after f (r .stage) es e (rd .due) (ap section-of (says .kind) ∙ i));
             }

@@ -5,3 +5,4 @@ pub mod Refusals
 pub mod Files
 pub mod Reading
 pub mod Writing
+pub mod Listing

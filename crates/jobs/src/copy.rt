@@ -10,7 +10,10 @@ pub fn copy_file(form: Form, bytes: &[u8], table: &mut [u8]) -> Result<usize, Fa
     ensures { λ r. ⌜ Copies form (now (bytes .entry)) (now (table .entry)) r (now (table .exit)) ⌝ }
 {
     if table.len() < bytes.len() {
-        return Err(Fault { refusal: Refusal::ShortTable, offset: 0 });
+        return Err(Fault {
+            refusal: Refusal::ShortTable,
+            offset: 0,
+        });
     }
     check_file(form, bytes)?;
     let mut reader = Reader::new(form, bytes);
@@ -18,7 +21,10 @@ pub fn copy_file(form: Form, bytes: &[u8], table: &mut [u8]) -> Result<usize, Fa
     while let Some(record) = reader.next()? {
         match record.entry.write(table, end) {
             Ok(after) => end = after,
-            Err(refusal) => return Err(Fault { refusal, offset: record.offset }),
+            Err(refusal) => return Err(Fault {
+                refusal,
+                offset: record.offset,
+            }),
         }
     }
     Ok(end)

@@ -33,14 +33,19 @@ fn head(body: &[u8]) -> Entry
     ensures { λ r. ⌜ Spells Kind.Head (now (body .entry)) r ⌝ }
 {
     let [a, b, c, d] = body else { unreachable() };
-    Entry::Head { places: two(*a, *b), ways: two(*c, *d) }
+    Entry::Head {
+        places: two(*a, *b),
+        ways: two(*c, *d),
+    }
 }
 
 fn way(body: &[u8]) -> Entry
     requires { ⌜ length (now body) ≡ body-len Kind.Way ⌝ }
     ensures { λ r. ⌜ Spells Kind.Way (now (body .entry)) r ⌝ }
 {
-    let [a, b, c, d, e, f, g, h, i, j, k, l, m, n, o, p] = body else { unreachable() };
+    let [a, b, c, d, e, f, g, h, i, j, k, l, m, n, o, p] = body else {
+        unreachable()
+    };
     Entry::Way {
         tail: two(*a, *b),
         head: two(*c, *d),
@@ -54,8 +59,14 @@ fn book(body: &[u8]) -> Entry
     requires { ⌜ length (now body) ≡ body-len Kind.Book ⌝ }
     ensures { λ r. ⌜ Spells Kind.Book (now (body .entry)) r ⌝ }
 {
-    let [a, b, c, d, e, f, g, h] = body else { unreachable() };
-    Entry::Book { from: two(*a, *b), to: two(*c, *d), amount: four(*e, *f, *g, *h) }
+    let [a, b, c, d, e, f, g, h] = body else {
+        unreachable()
+    };
+    Entry::Book {
+        from: two(*a, *b),
+        to: two(*c, *d),
+        amount: four(*e, *f, *g, *h),
+    }
 }
 
 fn settle(body: &[u8]) -> Entry
@@ -63,23 +74,35 @@ fn settle(body: &[u8]) -> Entry
     ensures { λ r. ⌜ Spells Kind.Settle (now (body .entry)) r ⌝ }
 {
     let [a, b, c, d] = body else { unreachable() };
-    Entry::Settle { budget: four(*a, *b, *c, *d) }
+    Entry::Settle {
+        budget: four(*a, *b, *c, *d),
+    }
 }
 
 fn group(body: &[u8]) -> Entry
     requires { ⌜ length (now body) ≡ body-len Kind.Group ⌝ }
     ensures { λ r. ⌜ Spells Kind.Group (now (body .entry)) r ⌝ }
 {
-    let [a, b, c, d, e, f] = body else { unreachable() };
-    Entry::Group { length: two(*a, *b), count: four(*c, *d, *e, *f) }
+    let [a, b, c, d, e, f] = body else {
+        unreachable()
+    };
+    Entry::Group {
+        length: two(*a, *b),
+        count: four(*c, *d, *e, *f),
+    }
 }
 
 fn last(body: &[u8]) -> Entry
     requires { ⌜ length (now body) ≡ body-len Kind.Last ⌝ }
     ensures { λ r. ⌜ Spells Kind.Last (now (body .entry)) r ⌝ }
 {
-    let [a, b, c, d, e, f] = body else { unreachable() };
-    Entry::Last { length: two(*a, *b), count: four(*c, *d, *e, *f) }
+    let [a, b, c, d, e, f] = body else {
+        unreachable()
+    };
+    Entry::Last {
+        length: two(*a, *b),
+        count: four(*c, *d, *e, *f),
+    }
 }
 
 // What a record of the kind with this body says.

@@ -37,7 +37,11 @@ impl Stage {
     fn of_listing(left: u16) -> Stage
         ensures { λ r. ⌜ r ≡ listing left ⌝ }
     {
-        if left == 0 { Stage::Calls } else { Stage::Ways(left) }
+        if left == 0 {
+            Stage::Calls
+        } else {
+            Stage::Ways(left)
+        }
     }
 
     fn next(self, entry: Entry) -> Stage
@@ -63,7 +67,11 @@ impl<'a> Reader<'a> {
             Form::Job => Stage::Head,
             Form::Grid => Stage::Sizes,
         };
-        Reader { bytes, offset: 0, stage }
+        Reader {
+            bytes,
+            offset: 0,
+            stage,
+        }
     }
 
     // The next record; none at the end of a good file; else the file's first fault, and the reader stays where it is.
@@ -71,26 +79,49 @@ impl<'a> Reader<'a> {
         ensures { λ r. ⌜ ((f : Form) (es : List Entry) → Read f es (now (self .entry)) → Next f es (now (self .entry)) r (now (self .exit))) ⌝ }
     {
         if self.bytes.len() > 60_000 {
-            return Err(Fault { refusal: Refusal::LongFile, offset: 60_000 });
+            return Err(Fault {
+                refusal: Refusal::LongFile,
+                offset: 60_000,
+            });
         }
         let offset = self.offset;
         let [byte, rest @ ..] = &self.bytes[offset..] else {
-            return if self.stage.is_complete() { Ok(None) } else { Err(Fault { refusal: Refusal::CutShort, offset }) };
+            return if self.stage.is_complete() {
+                Ok(None)
+            } else {
+                Err(Fault {
+                    refusal: Refusal::CutShort,
+                    offset,
+                })
+            };
         };
         let Some(kind) = Kind::told_by(*byte) else {
-            return Err(Fault { refusal: Refusal::UnknownKind, offset });
+            return Err(Fault {
+                refusal: Refusal::UnknownKind,
+                offset,
+            });
         };
         if kind.section() != self.stage.due() {
-            return Err(Fault { refusal: Refusal::OutOfPlace, offset });
+            return Err(Fault {
+                refusal: Refusal::OutOfPlace,
+                offset,
+            });
         }
         let len = kind.body_len();
         if rest.len() < len {
-            return Err(Fault { refusal: Refusal::CutShort, offset });
+            return Err(Fault {
+                refusal: Refusal::CutShort,
+                offset,
+            });
         }
         let body = &rest[0..len];
         let entry = decode_body(kind, body);
         self.stage = self.stage.next(entry);
         self.offset = offset + 1 + len;
-        Ok(Some(Record { entry, body, offset }))
+        Ok(Some(Record {
+            entry,
+            body,
+            offset,
+        }))
     }
 }

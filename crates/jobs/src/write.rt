@@ -19,7 +19,15 @@ pub(crate) fn put(table: &mut [u8], offset: usize, bytes: &[u8]) -> Result<usize
     Ok(end)
 }
 
-fn put_way(table: &mut [u8], offset: usize, tail: u16, head: u16, limit: u32, redraws: u32, misfit: u32) -> Result<usize, Refusal>
+fn put_way(
+    table: &mut [u8],
+    offset: usize,
+    tail: u16,
+    head: u16,
+    limit: u32,
+    redraws: u32,
+    misfit: u32,
+) -> Result<usize, Refusal>
     ensures { λ r. ⌜ Writes (2 ∷ (two-bytes tail ++ two-bytes head ++ four-bytes limit ++ four-bytes redraws ++ four-bytes misfit)) (now (table .entry)) offset r (now (table .exit)) ⌝ }
 {
     let [a, b] = tail.to_be_bytes();
@@ -27,10 +35,20 @@ fn put_way(table: &mut [u8], offset: usize, tail: u16, head: u16, limit: u32, re
     let [e, f, g, h] = limit.to_be_bytes();
     let [i, j, k, l] = redraws.to_be_bytes();
     let [m, n, o, p] = misfit.to_be_bytes();
-    put(table, offset, &[2, a, b, c, d, e, f, g, h, i, j, k, l, m, n, o, p])
+    put(
+        table,
+        offset,
+        &[2, a, b, c, d, e, f, g, h, i, j, k, l, m, n, o, p],
+    )
 }
 
-fn put_size(table: &mut [u8], offset: usize, kind: u8, length: u16, count: u32) -> Result<usize, Refusal>
+fn put_size(
+    table: &mut [u8],
+    offset: usize,
+    kind: u8,
+    length: u16,
+    count: u32,
+) -> Result<usize, Refusal>
     ensures { λ r. ⌜ Writes (kind ∷ (two-bytes length ++ four-bytes count)) (now (table .entry)) offset r (now (table .exit)) ⌝ }
 {
     let [a, b] = length.to_be_bytes();
@@ -49,8 +67,22 @@ impl Entry {
                 let [c, d] = ways.to_be_bytes();
                 put(table, offset, &[1, a, b, c, d])
             }
-            Entry::Way { tail, head, limit, redraws, misfit } => {
-                put_way(table, offset, tail, head, limit, redraws.cast_unsigned(), misfit.cast_unsigned())
+            Entry::Way {
+                tail,
+                head,
+                limit,
+                redraws,
+                misfit,
+            } => {
+                put_way(
+                    table,
+                    offset,
+                    tail,
+                    head,
+                    limit,
+                    redraws.cast_unsigned(),
+                    misfit.cast_unsigned(),
+                )
             }
             Entry::Book { from, to, amount } => {
                 let [a, b] = from.to_be_bytes();

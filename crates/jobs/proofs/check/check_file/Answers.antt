@@ -19,7 +19,7 @@ add-records c =
     let e = c .loop-records .inv .read (c .args .form) (c .new-reader .ensures .none) in
     let x = came _ _ _ _ _ (c .loop-records .inv) (c .in-Some .field-0) (some-came (c .in-Some .field-0) (c .in-Some .is) (c .in-Continue-next .ensures tt)) (c .args .form) (c .new-reader .ensures .none) in
     let k : c .loop-records .records + 1 ≤ c .next .last .self .offset =
-      count-fits (c .args .form) _ (c .next .last .self) _ (x .read) (counted (e .0) (c .in-Some .field-0 .entry) _ (e .2)) in
+    count-fits (c .args .form) _ (c .next .last .self) _ (x .read) (counted (e .0) (c .in-Some .field-0 .entry) _ (e .2)) in
     search needs
 
 pub loop-records-less : need.loop-records-less

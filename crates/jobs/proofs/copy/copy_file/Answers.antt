@@ -30,12 +30,12 @@ loop-record-again c =
     one-more _ _ _ _ _ (c .loop-record .inv) (c .in-Some .record) (some-came (c .in-Some .record) (c .in-Some .is) (c .in-Continue-record .ensures tt))
     (c .args .form) (c .new-reader .ensures .none) _
     (λ g es d p.
-      let e = c .in-Some .record .entry in
-      let w = c .in-Ok .ensures tt in
-      let n = ap length (written-push es e) ∙ length-append (written es) (record-of e) in
-      let q = p .0 in
-      let v = w .1 in
-      (omega arith, w .2 ∙ put-on _ _ (written es) (record-of e) _ (p .1) (p .0) ∙ ap (put-at (c .args .table .now) 0) (sym (written-push es e))))
+    let e = c .in-Some .record .entry in
+    let w = c .in-Ok .ensures tt in
+    let n = ap length (written-push es e) ∙ length-append (written es) (record-of e) in
+    let q = p .0 in
+    let v = w .1 in
+    (omega arith, w .2 ∙ put-on _ _ (written es) (record-of e) _ (p .1) (p .0) ∙ ap (put-at (c .args .table .now) 0) (sym (written-push es e))))
 
 pub returns-in-Err : need.returns-in-Err
 returns-in-Err c =

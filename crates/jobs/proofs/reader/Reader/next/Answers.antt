@@ -25,14 +25,18 @@ returns-in-rest-told-by c f es rd =
     (refl, unknown-here f es (c .args .self .now) rd (c .if-self-gt60000 .left) (search needs) (c .in-rest-told-by .ensures tt))
 
 pub returns-then-ne : need.returns-then-ne
-returns-then-ne c f es rd =
-    (refl, misplaced-here f es (c .args .self .now) rd (c .if-self-gt60000 .left) (search needs) (c .in-Some .kind) (c .in-Some .ensures tt)
-      (λ e. differ (c .if-ne .ensures tt) (c .section .ensures ∙ e ∙ sym (c .due .ensures))))
+returns-then-ne c f es rd = (
+  refl,
+  misplaced-here f es (c .args .self .now) rd (c .if-self-gt60000 .left) (search needs) (c .in-Some .kind) (c .in-Some .ensures tt)
+      (λ e. differ (c .if-ne .ensures tt) (c .section .ensures ∙ e ∙ sym (c .due .ensures))),
+)
 
 pub returns-then-rest-len : need.returns-then-rest-len
-returns-then-rest-len c f es rd =
-    (refl, cut-here f es (c .args .self .now) rd (c .if-self-gt60000 .left) (search needs) (c .in-Some .kind) (c .in-Some .ensures tt)
-      (sym (c .section .ensures) ∙ agree (c .if-ne .ensures tt) ∙ c .due .ensures) (omega arith))
+returns-then-rest-len c f es rd = (
+  refl,
+  cut-here f es (c .args .self .now) rd (c .if-self-gt60000 .left) (search needs) (c .in-Some .kind) (c .in-Some .ensures tt)
+      (sym (c .section .ensures) ∙ agree (c .if-ne .ensures tt) ∙ c .due .ensures) (omega arith),
+)
 
 pub returns : need.returns
 returns c f es rd =
@@ -41,8 +45,8 @@ returns c f es rd =
       says = record { kind = refl; numbers = c .decode-body-entry .ensures .numbers; fits = c .decode-body-entry .ensures .fits };
       same = refl;
       read =
-        read-on f es (c .args .self .now) rd (c .if-self-gt60000 .left) (search needs) (c .in-Some .kind) (c .in-Some .ensures tt)
-        (c .decode-body-entry .result) (c .body-len-len .result) (c .body-len-len .ensures) (omega arith) (c .decode-body-entry .ensures)
-        _ refl refl (c .next-self .ensures)
-        (sym (c .section .ensures) ∙ agree (c .if-ne .ensures tt) ∙ c .due .ensures);
+          read-on f es (c .args .self .now) rd (c .if-self-gt60000 .left) (search needs) (c .in-Some .kind) (c .in-Some .ensures tt)
+          (c .decode-body-entry .result) (c .body-len-len .result) (c .body-len-len .ensures) (omega arith) (c .decode-body-entry .ensures)
+          _ refl refl (c .next-self .ensures)
+          (sym (c .section .ensures) ∙ agree (c .if-ne .ensures tt) ∙ c .due .ensures);
     }
