@@ -1,0 +1,4 @@
+pub mod Group
+pub mod Kind
+pub mod Whole
+pub mod WholeLaws

@@ -1,0 +1,7 @@
+mod cost;
+pub use cost::Cost;
+pub use cost::HEAVIEST;
+pub use cost::LIGHT;
+mod whole;
+pub use whole::Whole;
+pub use whole::WholeCost;
