@@ -1,7 +1,10 @@
 mod cost;
+
 pub use cost::Cost;
 pub use cost::HEAVIEST;
 pub use cost::LIGHT;
+
 mod whole;
+
 pub use whole::Whole;
 pub use whole::WholeCost;

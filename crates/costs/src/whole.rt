@@ -3,6 +3,7 @@ ghost use lib.IntN.{natAbs};
 ghost use Rattle.costs.specs.Kind.{heaviest};
 
 mod cost;
+
 pub use cost::WholeCost;
 
 // A whole number of at most 4 * 10^18 either way.

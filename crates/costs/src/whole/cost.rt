@@ -37,11 +37,15 @@ pub impl Cost for Whole as WholeCost {
         if self.weight() + other.weight() > HEAVIEST {
             return None;
         }
-        Some(Whole { amount: self.amount + other.amount })
+        Some(Whole {
+            amount: self.amount + other.amount,
+        })
     }
 
     fn opposite(self) -> Whole {
-        Whole { amount: -self.amount }
+        Whole {
+            amount: -self.amount,
+        }
     }
 
     fn compare(self, other: Whole) -> Ordering {
@@ -52,7 +56,9 @@ pub impl Cost for Whole as WholeCost {
         if n > LIGHT || self.weight() > LIGHT as u64 {
             return None;
         }
-        Some(Whole { amount: n as i64 * self.amount })
+        Some(Whole {
+            amount: n as i64 * self.amount,
+        })
     }
 
     fn weight(self) -> u64 {
@@ -64,6 +70,8 @@ pub impl Cost for Whole as WholeCost {
     }
 
     fn read(row: i64) -> Whole {
-        Whole { amount: row.clamp(-BOUND, BOUND) }
+        Whole {
+            amount: row.clamp(-BOUND, BOUND),
+        }
     }
 }
