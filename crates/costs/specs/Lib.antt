@@ -2,3 +2,5 @@ pub mod Group
 pub mod Kind
 pub mod Whole
 pub mod WholeLaws
+pub mod PairLaws
+pub mod Pair

@@ -8,3 +8,8 @@ mod whole;
 
 pub use whole::Whole;
 pub use whole::WholeCost;
+
+mod pair;
+
+pub use pair::Pair;
+pub use pair::PairCost;

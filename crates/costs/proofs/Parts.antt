@@ -1,0 +1,20 @@
+-- What the code of pairs computes: an n-fold sum goes by parts, and pairs with equal first parts compare by the second.
+use mathlib.Core.Path.{_≡_, refl, sym, ap, ap₂, _∙_}
+use Prim.Native.Nat.{ℕ, zero, suc}
+use Rattle.std.specs.declared.cmp.Ordering.{Ordering}
+use Rattle.std.specs.declared.cmp.Ordering.the-variants.{Less, Equal, Greater}
+use Rattle.costs.specs.Group.{Group, times}
+use Rattle.costs.specs.Kind.{Kind, Compares}
+use Rattle.costs.specs.Pair.{pair-group, pair-kind}
+use Rattle.costs.specs.PairLaws.{equal-le}
+use Rattle.costs.specs.declared.pair.Pair.{Pair}
+
+pub times-parts : (g h : Group) (n : ℕ) (x : g .Carrier × h .Carrier) → times (pair-group g h) n x ≡ (times g n (x .0), times h n (x .1))
+times-parts g h zero x = refl
+times-parts g h (suc n) x = ap (λ t. pair-group g h .plus t x) (times-parts g h n x)
+
+module _ {C R D S : Type 0} (K : Kind C R) (L : Kind D S) where
+  pub by-second : (x y : Pair C D) (o : Ordering) → x .first ≡ y .first → Compares L (x .second) (y .second) o → Compares (pair-kind K L) x y o
+  by-second x y Less e h = ((equal-le (K .group) _ _ (ap (K .value) e), λ _. h .0), λ d. h .1 (ap (λ v. v .1) d))
+  by-second x y Equal e h = ap₂ (λ a b. record { first = a; second = b }) e h
+  by-second x y Greater e h = ((equal-le (K .group) _ _ (ap (K .value) (sym e)), λ _. h .0), λ d. h .1 (ap (λ v. v .1) d))
