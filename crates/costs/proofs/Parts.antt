@@ -9,7 +9,7 @@ use Rattle.costs.specs.Pair.{pair-group, pair-kind}
 use Rattle.costs.specs.PairLaws.{equal-le}
 use Rattle.costs.specs.declared.pair.Pair.{Pair}
 
-pub times-parts : (g h : Group) (n : ℕ) (x : g .Carrier × h .Carrier) → times (pair-group g h) n x ≡ (times g n (x .0), times h n (x .1))
+times-parts : (g h : Group) (n : ℕ) (x : g .Carrier × h .Carrier) → times (pair-group g h) n x ≡ (times g n (x .0), times h n (x .1))
 times-parts g h zero x = refl
 times-parts g h (suc n) x = ap (λ t. pair-group g h .plus t x) (times-parts g h n x)
 
@@ -18,3 +18,6 @@ module _ {C R D S : Type 0} (K : Kind C R) (L : Kind D S) where
   by-second x y Less e h = ((equal-le (K .group) _ _ (ap (K .value) e), λ _. h .0), λ d. h .1 (ap (λ v. v .1) d))
   by-second x y Equal e h = ap₂ (λ a b. record { first = a; second = b }) e h
   by-second x y Greater e h = ((equal-le (K .group) _ _ (ap (K .value) (sym e)), λ _. h .0), λ d. h .1 (ap (λ v. v .1) d))
+
+  pub times-pair : (n : ℕ) (x s : Pair C D) → K .value (s .first) ≡ times (K .group) n (K .value (x .first)) → L .value (s .second) ≡ times (L .group) n (L .value (x .second)) → pair-kind K L .value s ≡ times (pair-group (K .group) (L .group)) n (pair-kind K L .value x)
+  times-pair n x s p q = ap₂ (λ a b. (a, b)) p q ∙ sym (times-parts (K .group) (L .group) n (pair-kind K L .value x))

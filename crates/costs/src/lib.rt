@@ -13,3 +13,6 @@ mod pair;
 
 pub use pair::Pair;
 pub use pair::PairCost;
+
+#[cfg(test)]
+mod tests;
