@@ -45,10 +45,9 @@ where
     }
 
     fn compare(self, other: Pair<A, B>) -> Ordering {
-        match self.first.compare(other.first) {
-            Ordering::Equal => self.second.compare(other.second),
-            unequal => unequal,
-        }
+        self.first
+            .compare(other.first)
+            .then(self.second.compare(other.second))
     }
 
     fn times(self, n: u32) -> Option<Pair<A, B>> {

@@ -1,6 +1,6 @@
-use Rattle.costs.proofs.Parts.{by-second}
+use borrow.Author.Needs.{needs}
+use Rattle.costs.proofs.Parts.{ranked}
 use Rattle.costs.proofs.pair.PairCost.compare.Needs as need
 
-pub returns-in-Equal : need.returns-in-Equal
-returns-in-Equal g c =
-    by-second (g .A·Cost .kind) (g .B·Cost .kind) (c .args .self) (c .args .other) _ (c .in-Equal .ensures tt) (c .compare-in-Equal .ensures)
+pub returns : need.returns
+returns g c = search (needs, ranked)
