@@ -29,11 +29,8 @@ whole-group = record {
 }
 
 -- the number itself, or the nearer bound if it lies outside
-abbrev pub nearest : ℤ → Whole
-nearest z = record {
-  amount = maxZ (negℤ (pos heaviest)) (minZ z (pos heaviest));
-  small = near-small z;
-}
+abbrev pub nearest : ℤ → ℤ
+nearest z = maxZ (negℤ (pos heaviest)) (minZ z (pos heaviest))
 
 abbrev pub whole-kind : Kind Whole ℤ
 whole-kind = record {
@@ -41,12 +38,12 @@ whole-kind = record {
   value = λ x. x .amount;
   weighs = λ x. natAbs (x .amount);
   row-of = λ x. x .amount;
-  reads = nearest;
+  reads = λ r. record { amount = nearest r; small = near-small r };
   distinct = same-whole;
   zero-weighs = λ x e. ap natAbs e;
   opposite-weighs = λ x y e. abs-opposite (x .amount) (y .amount) e;
   sum-weighs = λ x y z e. abs-sum (x .amount) (y .amount) (z .amount) e;
   bounded = λ x. x .small;
-  reads-back = λ x. same-whole (nearest (x .amount)) x (near-same (x .amount) (x .small));
+  reads-back = λ x. same-whole _ x (near-same (x .amount) (x .small));
   strange-rows = near-far;
 }

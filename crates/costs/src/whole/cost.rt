@@ -3,14 +3,14 @@ ghost use Prim.Native.Nat.{_≤_, _<_};
 ghost use lib.IntN.{natAbs};
 ghost use Rattle.std.specs.Options.{Cases as BySome};
 ghost use Rattle.costs.specs.Kind.{heaviest};
-ghost use Rattle.costs.specs.Whole.{whole-kind};
+ghost use Rattle.costs.specs.Whole.{nearest, whole-kind};
 use crate::cost::Cost;
 use crate::cost::HEAVIEST;
 use crate::cost::LIGHT;
 use crate::whole::Whole;
 use std::cmp::Ordering;
 
-const BOUND: i64 = 4_000_000_000_000_000_000;
+const BOUND: i64 = HEAVIEST as i64;
 
 impl Whole {
     // The cost of that number, or none outside the bounds.
@@ -22,6 +22,13 @@ impl Whole {
         }
         Some(Whole { amount })
     }
+}
+
+// The number itself, or the nearer bound if it lies outside.
+fn clamped(row: i64) -> i64
+    ensures { λ r. ⌜ r ≡ nearest row ⌝ }
+{
+    row.clamp(-BOUND, BOUND)
 }
 
 pub impl Cost for Whole as WholeCost {
@@ -71,7 +78,7 @@ pub impl Cost for Whole as WholeCost {
 
     fn read(row: i64) -> Whole {
         Whole {
-            amount: row.clamp(-BOUND, BOUND),
+            amount: clamped(row),
         }
     }
 }
