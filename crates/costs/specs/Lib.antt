@@ -1,3 +1,4 @@
+-- What the contracts of this crate cite.
 pub mod Group
 pub mod Kind
 pub mod Whole

@@ -50,6 +50,7 @@ abs-sum x y z e =
     let d = over-abs y in
     abs-within z (natAbs x + natAbs y) (omega (arith, ints)) (omega (arith, ints))
 
+-- the amount that a row z reads as
 abbrev near : ℤ → ℤ
 near z = maxZ (negℤ (pos heaviest)) (minZ z (pos heaviest))
 

@@ -1,10 +1,9 @@
-ghost use mathlib.Core.Path.{_≡_};
 ghost use Rattle.costs.specs.Pair.{pair-kind};
 use crate::cost::Cost;
 use crate::cost::HEAVIEST;
 use std::cmp::Ordering;
 
-// Two costs, of which the first goes before.
+// Two costs, compared by the first and then by the second.
 #[derive(Clone, Copy)]
 pub struct Pair<A, B> {
     pub first: A,

@@ -1,3 +1,4 @@
+-- The pair of the n-fold sums is the n-fold sum of the pair.
 use native.Mathlib.Omega.{arith}
 use Rattle.costs.proofs.Parts.{times-pair}
 use Rattle.costs.proofs.pair.PairCost.times.Needs as need

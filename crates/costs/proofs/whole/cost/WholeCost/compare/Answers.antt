@@ -1,3 +1,4 @@
+-- Whole costs rank as their amounts do.
 use Rattle.costs.proofs.Numbers.{ranks}
 use Rattle.costs.proofs.whole.cost.WholeCost.compare.Needs as need
 

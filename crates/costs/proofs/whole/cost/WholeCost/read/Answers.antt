@@ -1,3 +1,4 @@
+-- A row reads as the cost of the clamped amount.
 use native.Mathlib.Omega.{arith}
 use Rattle.std.proofs.shelf.Signed.{ints, clamps}
 use Rattle.costs.specs.WholeLaws.{same-whole}

@@ -1,3 +1,4 @@
+-- The product fits, is small enough, and is the n-fold sum.
 use native.Mathlib.Omega.{arith}
 use Rattle.costs.proofs.Numbers.{made-fits, made-is, made-small}
 use Rattle.costs.proofs.whole.cost.WholeCost.times.Needs as need
