@@ -7,7 +7,7 @@ use Rattle.std.specs.declared.cmp.Ordering.the-variants.{Less, Equal, Greater}
 use Rattle.costs.specs.Group.{Group, times}
 use Rattle.costs.specs.Kind.{Kind, Compares}
 use Rattle.costs.specs.Pair.{pair-group, pair-kind}
-use Rattle.costs.specs.PairLaws.{equal-le}
+use Rattle.costs.specs.PairLaws.{equal-le, same-pair}
 use Rattle.costs.specs.declared.pair.Pair.{Pair}
 
 times-parts : (g h : Group) (n : ℕ) (x : g .Carrier × h .Carrier) → times (pair-group g h) n x ≡ (times g n (x .0), times h n (x .1))
@@ -20,7 +20,7 @@ module _ {C R D S : Type 0} (K : Kind C R) (L : Kind D S) where
     where
       by-second : (b : Ordering) → x .first ≡ y .first → Compares L (x .second) (y .second) b → Compares (pair-kind K L) x y b
       by-second Less e q = ((equal-le (K .group) _ _ (ap (K .value) e), λ _. q .0), λ d. q .1 (ap (λ v. v .1) d))
-      by-second Equal e q = ap₂ (λ a b. record { first = a; second = b }) e q
+      by-second Equal e q = same-pair K L x y e q
       by-second Greater e q = ((equal-le (K .group) _ _ (ap (K .value) (sym e)), λ _. q .0), λ d. q .1 (ap (λ v. v .1) d))
 
       by-first : (a b : Ordering) → Compares K (x .first) (y .first) a → Compares L (x .second) (y .second) b → Compares (pair-kind K L) x y (thenBy a b)

@@ -3,5 +3,5 @@ pub mod Group
 pub mod Kind
 pub mod Whole
 pub mod WholeLaws
-pub mod PairLaws
 pub mod Pair
+pub mod PairLaws
