@@ -1,0 +1,4 @@
+pub mod Looked
+pub mod Marked
+pub mod Layered
+pub mod Gridded
