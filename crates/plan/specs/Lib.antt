@@ -1,0 +1,7 @@
+-- What the contracts of this crate cite.
+pub mod Loads
+pub mod Steps
+pub mod State
+pub mod Checks
+pub mod Rules
+pub mod Law

@@ -1,0 +1,32 @@
+use networks::Refusal;
+use networks::RefusalDebug;
+use networks::RefusalPartialEq;
+
+// What may be asked of a plan to change it.
+#[derive(Clone, Copy, PartialEq, Eq, Debug)]
+pub enum Call {
+    Open,
+    Book { from: usize, to: usize, amount: u32 },
+    Route,
+    Settle { budget: u32 },
+}
+
+// How a settle ends.
+#[derive(Clone, Copy, PartialEq, Eq, Debug)]
+pub enum Ending {
+    Settled,
+    Blocked { at: usize },
+    Unfinished,
+}
+
+// What a plan answers to a call.
+#[derive(Clone, Copy, PartialEq, Eq, Debug)]
+pub enum Answer {
+    Opened,
+    Booked,
+    Settled,
+    Blocked { at: usize },
+    Sent { from: usize, to: usize, amount: u32 },
+    Ran { routes: u32, ending: Ending },
+    Refused(Refusal),
+}

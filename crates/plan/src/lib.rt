@@ -1,0 +1,5 @@
+mod calls;
+
+pub use calls::Answer;
+pub use calls::Call;
+pub use calls::Ending;
