@@ -17,15 +17,17 @@ use Rattle.plan.specs.declared.calls.Call.{Call}
 use Rattle.plan.specs.declared.calls.Call.the-variants.{Open, Book, Route as Route-call, Settle}
 use Rattle.plan.specs.declared.calls.Ending.{Ending}
 use Rattle.plan.specs.declared.calls.Ending.the-variants as ending
+use Rattle.plan.specs.declared.step.Step.{Step}
+use Rattle.plan.specs.declared.step.Step.the-variants.{Ahead, Back}
 use Rattle.plan.specs.Checks.{open-fault, book-fault, route-fault, settle-fault}
 use Rattle.plan.specs.State.{State, rest}
-use Rattle.plan.specs.Steps.{Step, ahead, back, Route, Reach, Least, Losing}
+use Rattle.plan.specs.Steps.{Route, Reach, Least, Losing}
 
 -- x more on each step of a route
 abbrev pub along : ℕ → List Step → List ℕ → List ℕ
 along x [] f = f
-along x (ahead k ∷ ss) f = along x ss (set f k (getD f k 0 + x))
-along x (back k ∷ ss) f = along x ss (set f k (getD f k 0 - x))
+along x (Ahead k ∷ ss) f = along x ss (set f k (getD f k 0 + x))
+along x (Back k ∷ ss) f = along x ss (set f k (getD f k 0 - x))
 
 -- x more on the rest of one place, and less on that of another
 abbrev pub move : List ℤ → ℕ → ℕ → ℕ → List ℤ

@@ -9,19 +9,16 @@ use Rattle.std.specs.declared.option.Option.the-variants.{Some}
 use Rattle.std.specs.shelf.Lists.{All}
 use Rattle.costs.specs.Kind.{Kind}
 use Rattle.networks.specs.Net.{Net, Way}
-
--- a step along the way numbered k, from its tail to its head or back
-pub data Step : Type 0 where
-  ahead : ℕ → Step
-  back : ℕ → Step
+use Rattle.plan.specs.declared.step.Step.{Step}
+use Rattle.plan.specs.declared.step.Step.the-variants.{Ahead, Back}
 
 module _ {C R : Type 0} (K : Kind C R) (net : Net C) (f : List ℕ) where
   -- the step leads from u to v at cost c, and has room for r > 0
   pub data Gives : Step → ℕ → ℕ → K .group .Carrier → ℕ → Type 0 where
     forth : (k : ℕ) (w : Way C) → nth (net .ways) k ≡ Some w → getD f k 0 < w .limit →
-        Gives (ahead k) (w .tail) (w .head) (K .value (w .cost)) (w .limit - getD f k 0)
+        Gives (Ahead k) (w .tail) (w .head) (K .value (w .cost)) (w .limit - getD f k 0)
     behind : (k : ℕ) (w : Way C) → nth (net .ways) k ≡ Some w → 0 < getD f k 0 →
-        Gives (back k) (w .head) (w .tail) (K .group .opp (K .value (w .cost))) (getD f k 0)
+        Gives (Back k) (w .head) (w .tail) (K .group .opp (K .value (w .cost))) (getD f k 0)
 
   -- the steps lead from u to v one after the other, meeting the places vs after u, at cost c, each with room for x
   pub data Leads (x : ℕ) : ℕ → List Step → List ℕ → ℕ → K .group .Carrier → Type 0 where

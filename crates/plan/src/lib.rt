@@ -1,4 +1,5 @@
 mod calls;
+mod step;
 
 pub use calls::Answer;
 pub use calls::Call;
