@@ -9,7 +9,7 @@ use Rattle.std.specs.shelf.Lists.{All}
 use Rattle.jobs.specs.declared.entry.Entry.{Entry}
 use Rattle.jobs.specs.declared.form.Form.{Form}
 use Rattle.jobs.specs.declared.kind.Kind.{Kind}
-use Rattle.jobs.specs.declared.refusal.Refusal.{Refusal}
+use Rattle.networks.specs.declared.refusal.Refusal.{Refusal}
 use Rattle.jobs.specs.Kinds.{kind-byte, body-len}
 use Rattle.jobs.specs.Entries.{kind-of, body-of, record-of, Fits}
 use Rattle.jobs.specs.Files.{written, Lawful, longest, Holds, Good, Begun, InPlace, Wrong, unknown, misplaced, cut, missing, Faulty, too-long, after}

@@ -14,8 +14,8 @@ use Rattle.jobs.specs.declared.entry.Entry.{Entry}
 use Rattle.jobs.specs.declared.form.Form.{Form}
 use Rattle.jobs.specs.declared.kind.Kind.{Kind}
 use Rattle.jobs.specs.declared.reader.Reader.{Reader}
-use Rattle.jobs.specs.declared.refusal.Refusal.{Refusal}
-use Rattle.jobs.specs.declared.refusal.Refusal.the-variants.{CutShort, UnknownKind, OutOfPlace, LongFile}
+use Rattle.networks.specs.declared.refusal.Refusal.{Refusal}
+use Rattle.networks.specs.declared.refusal.Refusal.the-variants.{CutShort, UnknownKind, OutOfPlace, LongFile}
 use Rattle.jobs.specs.Kinds.{kind-byte, body-len, section-of}
 use Rattle.jobs.specs.Entries.{kind-of, body-of, record-of, Fits, Spells}
 use Rattle.jobs.specs.Files.{written, longest, Holds, Begun, Wrong, unknown, misplaced, cut, missing, Faulty, after as fault-after}

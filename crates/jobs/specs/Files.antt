@@ -12,8 +12,8 @@ use Rattle.jobs.specs.declared.fault.Fault.{Fault}
 use Rattle.jobs.specs.declared.form.Form.{Form}
 use Rattle.jobs.specs.declared.form.Form.the-variants as form
 use Rattle.jobs.specs.declared.kind.Kind.{Kind}
-use Rattle.jobs.specs.declared.refusal.Refusal.{Refusal}
-use Rattle.jobs.specs.declared.refusal.Refusal.the-variants.{CutShort, UnknownKind, OutOfPlace, LongFile}
+use Rattle.networks.specs.declared.refusal.Refusal.{Refusal}
+use Rattle.networks.specs.declared.refusal.Refusal.the-variants.{CutShort, UnknownKind, OutOfPlace, LongFile}
 use Rattle.jobs.specs.declared.section.Section.{Section}
 use Rattle.jobs.specs.declared.section.Section.the-variants.{Listing, Calls, Sizes}
 use Rattle.jobs.specs.Kinds.{kind-byte, body-len, section-of}

@@ -1,7 +1,6 @@
 pub mod Kinds
 pub mod Bytes
 pub mod Entries
-pub mod Refusals
 pub mod Files
 pub mod Reading
 pub mod Writing

@@ -13,7 +13,7 @@ use Rattle.jobs.specs.declared.fault.Fault.{Fault}
 use Rattle.jobs.specs.declared.form.Form.{Form}
 use Rattle.jobs.specs.Entries.{record-of}
 use Rattle.jobs.specs.Files.{Holds, First}
-use Rattle.jobs.specs.Refusals.{number-of}
+use Rattle.networks.specs.Refusals.{number-of}
 
 abbrev pub words-of-cost : ℕ → ℤ → ℤ → List ℕ
 words-of-cost limit redraws misfit = codes " limit " ++ decimal limit ++ codes " redraws " ++ signed redraws ++ codes " misfit " ++ signed misfit

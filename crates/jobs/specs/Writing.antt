@@ -8,8 +8,8 @@ use Rattle.std.specs.declared.result.Result.{Result}
 use Rattle.std.specs.declared.result.Result.the-variants.{Ok, Err}
 use Rattle.jobs.specs.declared.fault.Fault.{Fault}
 use Rattle.jobs.specs.declared.form.Form.{Form}
-use Rattle.jobs.specs.declared.refusal.Refusal.{Refusal}
-use Rattle.jobs.specs.declared.refusal.Refusal.the-variants.{ShortTable}
+use Rattle.networks.specs.declared.refusal.Refusal.{Refusal}
+use Rattle.networks.specs.declared.refusal.Refusal.the-variants.{ShortTable}
 use Rattle.jobs.specs.Files.{Good, First}
 
 -- the table with these bytes at the offset

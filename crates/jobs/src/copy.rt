@@ -3,7 +3,7 @@ use super::check::check_file;
 use super::fault::Fault;
 use super::form::Form;
 use super::reader::Reader;
-use super::refusal::Refusal;
+use networks::Refusal;
 
 // Reads a file record by record, and writes each record into the table after the one before. The table then begins with the same bytes.
 pub fn copy_file(form: Form, bytes: &[u8], table: &mut [u8]) -> Result<usize, Fault>

@@ -1,6 +1,6 @@
-use super::refusal::Refusal;
-use super::refusal::RefusalDebug;
-use super::refusal::RefusalPartialEq;
+use networks::Refusal;
+use networks::RefusalDebug;
+use networks::RefusalPartialEq;
 
 // A refusal and the place in the file that it is about.
 #[derive(Clone, Copy, PartialEq, Eq, Debug)]

@@ -9,7 +9,6 @@ mod listing;
 mod reader;
 mod reading;
 mod record;
-mod refusal;
 mod section;
 mod write;
 
@@ -22,5 +21,4 @@ pub use kind::Kind;
 pub use listing::list_file;
 pub use reader::Reader;
 pub use record::Record;
-pub use refusal::Refusal;
 pub use section::Section;

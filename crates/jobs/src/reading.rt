@@ -9,7 +9,7 @@ use super::kind::Kind;
 use super::reader::Reader;
 use super::reader::Stage;
 use super::record::Record;
-use super::refusal::Refusal;
+use networks::Refusal;
 use super::section::Section;
 use super::section::SectionPartialEq;
 

@@ -3,7 +3,7 @@ ghost use Rattle.jobs.specs.Bytes.{two-bytes, four-bytes};
 ghost use Rattle.jobs.specs.Entries.{record-of};
 ghost use Rattle.jobs.specs.Writing.{Writes};
 use super::entry::Entry;
-use super::refusal::Refusal;
+use networks::Refusal;
 
 // Puts the bytes into the table at the offset, and answers the offset after them.
 pub(crate) fn put(table: &mut [u8], offset: usize, bytes: &[u8]) -> Result<usize, Refusal>
