@@ -8,3 +8,4 @@ pub mod Faults
 pub mod Progress
 pub mod Puts
 pub mod Lined
+pub mod Sectioned

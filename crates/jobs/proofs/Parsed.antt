@@ -19,7 +19,7 @@ use Rattle.jobs.specs.declared.kind.Kind.{Kind}
 use Rattle.jobs.specs.declared.kind.Kind.the-variants as kind
 use Rattle.jobs.specs.Bytes.{two-bytes, four-bytes, unsigned}
 use Rattle.jobs.specs.Kinds.{kind-byte, body-len}
-use Rattle.jobs.specs.Entries.{kind-of, body-of, record-of, Fits}
+use Rattle.jobs.specs.Entries.{kind-of, body-of, record-of, Fits, two-at, four-at, signed-at}
 use Rattle.jobs.specs.Files.{written}
 
 -- the kind that a byte tells
@@ -54,16 +54,10 @@ length-body entry.Prices = refl
 length-body (entry.Group length count) = refl
 length-body (entry.Last length count) = refl
 
--- the numbers that stand in a body
-two-at : List ℕ → ℕ → ℕ
-two-at bs i = getD bs i 0 * 256 + getD bs (i + 1) 0
-
-four-at : List ℕ → ℕ → ℕ
-four-at bs i = getD bs i 0 * 16777216 + getD bs (i + 1) 0 * 65536 + getD bs (i + 2) 0 * 256 + getD bs (i + 3) 0
-
-entry-at : Kind → List ℕ → Entry
+-- what a body of a kind says
+unfoldable pub entry-at : Kind → List ℕ → Entry
 entry-at kind.Head bs = entry.Head (two-at bs 0) (two-at bs 2)
-entry-at kind.Way bs = entry.Way (two-at bs 0) (two-at bs 2) (four-at bs 4) (toZ w32 (four-at bs 8)) (toZ w32 (four-at bs 12))
+entry-at kind.Way bs = entry.Way (two-at bs 0) (two-at bs 2) (four-at bs 4) (signed-at bs 8) (signed-at bs 12)
 entry-at kind.Book bs = entry.Book (two-at bs 0) (two-at bs 2) (four-at bs 4)
 entry-at kind.Route bs = entry.Route
 entry-at kind.Settle bs = entry.Settle (four-at bs 0)
@@ -74,6 +68,9 @@ entry-at kind.Last bs = entry.Last (two-at bs 0) (four-at bs 2)
 
 two-back : (n : ℕ) → n < 2 ^ 16 → n / 256 % 256 * 256 + n % 256 ≡ n
 two-back n l = omega arith
+
+pub two-same : (m n : ℕ) → m < 2 ^ 16 → n < 2 ^ 16 → two-bytes m ≡ two-bytes n → m ≡ n
+two-same m n p q e = sym (two-back m p) ∙ ap (λ bs. two-at bs 0) e ∙ two-back n q
 
 four-back : (n : ℕ) → n < 2 ^ 32 → n / 16777216 % 256 * 16777216 + n / 65536 % 256 * 65536 + n / 256 % 256 * 256 + n % 256 ≡ n
 four-back n l =
@@ -93,8 +90,8 @@ signed-back z l = let f = unsigned-fits z l in ap (toZ w32) (four-back (unsigned
 way-same : {t t′ h h′ l l′ : ℕ} {r r′ m m′ : ℤ} → t ≡ t′ → h ≡ h′ → l ≡ l′ → r ≡ r′ → m ≡ m′ → entry.Way t h l r m ≡ entry.Way t′ h′ l′ r′ m′
 way-same p q s u v = cc
 
-entry-back : (e : Entry) → Fits e → entry-at (kind-of e) (body-of e) ≡ e
-unfolding entry-at two-at four-at
+pub entry-back : (e : Entry) → Fits e → entry-at (kind-of e) (body-of e) ≡ e
+unfolding entry-at
 entry-back (entry.Head places ways) (p, w) = (let a = two-back places p in let b = two-back ways w in cc)
 entry-back (entry.Way tail head limit redraws misfit) (t, h, l, r, m) =
     way-same (two-back tail t) (two-back head h) (four-back limit l) (signed-back redraws r) (signed-back misfit m)

@@ -65,7 +65,7 @@ a-head (entry.Group length count) i = absurd (let z : _≡_ {A = ℕ} 0 1 = cc i
 a-head (entry.Last length count) i = absurd (let z : _≡_ {A = ℕ} 0 1 = cc in omega arith)
 
 -- the element between two parts lies in the first or in the second of another two, by its place
-in-first : {X : Type 0} (P : X → Type 0) (xs us : List X) (x : X) (ys vs : List X) → xs ++ x ∷ ys ≡ us ++ vs → length xs < length us → All P us → P x
+pub in-first : {X : Type 0} (P : X → Type 0) (xs us : List X) (x : X) (ys vs : List X) → xs ++ x ∷ ys ≡ us ++ vs → length xs < length us → All P us → P x
 in-first P [] [] x ys vs e l a = absurd (omega arith)
 in-first P [] (u ∷ us) x ys vs e l a = let h : x ≡ u = cc in subst P (sym h) (a .0)
 in-first P (y ∷ xs) [] x ys vs e l a = absurd (omega arith)

@@ -1,9 +1,12 @@
 -- What a record says, and the bytes that say it.
 use mathlib.Core.Path.{_≡_}
 use mathlib.Core.List.{List, [], _∷_, _++_}
-use Prim.Native.Nat.{ℕ, _^_, _<_}
+use Prim.Native.Nat.{ℕ, _+_, _*_, _^_, _<_}
 use lib.IntN.{ℤ}
+use lib.ListN.{getD}
 use lib.Signed.{mag}
+use mir.Syntax.{w32}
+use mir.Val.{toZ}
 use Rattle.jobs.specs.declared.kind.Kind.{Kind}
 use Rattle.jobs.specs.declared.kind.Kind.the-variants as kind
 use Rattle.jobs.specs.declared.entry.Entry.{Entry}
@@ -56,3 +59,13 @@ pub record Spells (k : Kind) (bytes : List ℕ) (e : Entry) : Type 0 where
   pub kind : kind-of e ≡ k
   pub numbers : body-of e ≡ bytes
   pub fits : Fits e
+
+-- the numbers that stand in a body from place i on
+abbrev pub two-at : List ℕ → ℕ → ℕ
+two-at bs i = getD bs i 0 * 256 + getD bs (i + 1) 0
+
+abbrev pub four-at : List ℕ → ℕ → ℕ
+four-at bs i = getD bs i 0 * 16777216 + getD bs (i + 1) 0 * 65536 + getD bs (i + 2) 0 * 256 + getD bs (i + 3) 0
+
+abbrev pub signed-at : List ℕ → ℕ → ℤ
+signed-at bs i = toZ w32 (four-at bs i)

@@ -5,3 +5,4 @@ pub mod Files
 pub mod Reading
 pub mod Writing
 pub mod Listing
+pub mod Sections

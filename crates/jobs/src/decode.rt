@@ -9,7 +9,7 @@ ghost use lib.ListN.{length};
 use super::entry::Entry;
 use super::kind::Kind;
 
-fn two(a: u8, b: u8) -> u16
+pub(crate) fn two(a: u8, b: u8) -> u16
     ensures { λ r. ⌜ two-bytes r ≡ a ∷ b ∷ [] ⌝ }
 {
     u16::from_be_bytes([a, b])
