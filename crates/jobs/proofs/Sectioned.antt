@@ -2,11 +2,16 @@
 use mathlib.Core.Path.{_≡_, refl, sym, ap, subst, _∙_}
 use mathlib.Core.List.{List, [], _∷_, _++_, map, append-assoc, append-nil}
 use Prim.Native.Nat.{ℕ, zero, suc, _+_, _*_, _-_, _^_, _≤_, _<_}
+use native.Mathlib.Nat.{zero-add}
 use native.Mathlib.Omega.{arith}
 use lib.IntN.{ℤ, pos}
 use lib.ListN.{length, getD, take, drop, length-append}
+use Rattle.std.specs.Finite.{nth}
 use Rattle.std.specs.Iters.{counting}
 use Rattle.std.specs.shelf.Lists.{All}
+use Rattle.std.specs.declared.option.Option.the-variants.{Some, None}
+use Rattle.std.proofs.shelf.Counted.{length-map-counting, getD-map-counting}
+use Rattle.std.proofs.shelf.Maps.{nth-getD, nth-past}
 use Rattle.std.proofs.shelf.Lists.{take-at, drop-at, drop-drop}
 use Rattle.costs.specs.declared.pair.Pair.{Pair}
 use Rattle.costs.specs.declared.whole.Whole.{Whole}
@@ -18,7 +23,7 @@ use Rattle.jobs.specs.declared.kind.Kind.the-variants as kind
 use Rattle.jobs.specs.declared.section.Section.{Section}
 use Rattle.jobs.specs.declared.section.Section.the-variants as section
 use Rattle.jobs.specs.Bytes.{two-bytes}
-use Rattle.jobs.specs.Entries.{body-of, record-of, Fits}
+use Rattle.jobs.specs.Entries.{body-of, record-of, Fits, Spells}
 use Rattle.jobs.specs.Files.{written, In, Job, Holds, Good}
 use Rattle.jobs.specs.Sections.{cost-of, ways-of, places-of, net-of, way-at}
 use Rattle.jobs.proofs.Parsed.{entry-at, entry-back, length-body, two-same}
@@ -109,8 +114,8 @@ unfolding as-way
 way-here bytes front rest i ws w n j =
     a-way (λ e. Fits e → bytes ≡ front ++ (record-of e ++ rest) → way-at bytes i ∷ ways-of ws ≡ ways-of (e ∷ ws))
     (λ t h l r m f e.
-      let there = body-there bytes front (body-of (entry.Way t h l r m)) rest 2 i e n refl in
-      ap (λ x. x ∷ ways-of ws) (way-at-is bytes i ∙ ap (λ b. as-way (entry-at kind.Way b)) there ∙ ap as-way (entry-back (entry.Way t h l r m) f)))
+    let there = body-there bytes front (body-of (entry.Way t h l r m)) rest 2 i e n refl in
+    ap (λ x. x ∷ ways-of ws) (way-at-is bytes i ∙ ap (λ b. as-way (entry-at kind.Way b)) there ∙ ap as-way (entry-back (entry.Way t h l r m) f)))
     w j
 
 found : (bytes front rest : List ℕ) (i : ℕ) (ws : List Entry) → bytes ≡ front ++ (written ws ++ rest) → length front ≡ 17 * i + 5 → All Fits ws → All (In section.Listing) ws →
@@ -120,9 +125,24 @@ found bytes front rest i (w ∷ ws) e n f a =
     let here = way-here bytes front (written ws ++ rest) i ws w n (a .0) (f .0) (e ∙ ap (λ bs. front ++ bs) (append-assoc (record-of w) (written ws) rest)) in
     let h : length (record-of w) ≡ 17 = a-way (λ x. length (record-of x) ≡ 17) (λ t h l r m. refl) w (a .0) in
     let more = found bytes (front ++ record-of w) rest (i + 1) ws
-      (e ∙ ap (λ bs. front ++ bs) (append-assoc (record-of w) (written ws) rest) ∙ sym (append-assoc front (record-of w) (written ws ++ rest)))
-      (simp length-append (omega arith)) (f .1) (a .1) in
+    (e ∙ ap (λ bs. front ++ bs) (append-assoc (record-of w) (written ws) rest) ∙ sym (append-assoc front (record-of w) (written ws ++ rest)))
+    (simp length-append (omega arith)) (f .1) (a .1) in
     ap (λ xs. way-at bytes i ∷ xs) more ∙ here
+
+-- the way that a record says, where it stands
+pub way-said : (bytes : List ℕ) (k : ℕ) (e : Entry) (t h l : ℕ) (r m : ℤ) → Spells kind.Way (take 16 (drop (17 * k + 6) bytes)) e → e ≡ entry.Way t h l r m →
+    way-at bytes k ≡ record { tail = t; head = h; limit = l; cost = cost-of r m }
+unfolding as-way
+way-said bytes k e t h l r m s q =
+    way-at-is bytes k ∙ ap as-way (sym (ap (entry-at kind.Way) (s .numbers)) ∙ sym (ap (λ j. entry-at j (body-of e)) (s .kind)) ∙ entry-back e (s .fits) ∙ q)
+
+pub way-asked : (bytes : List ℕ) (n k : ℕ) → k < n → nth (map (way-at bytes) (counting 0 n)) k ≡ Some (way-at bytes k)
+way-asked bytes n k l =
+    let m : k < length (map (way-at bytes) (counting 0 n)) = simp length-map-counting l in
+    nth-getD (map (way-at bytes) (counting 0 n)) k (way-at bytes k) m ∙ ap (λ w. Some w) (getD-map-counting (way-at bytes) 0 n k k (way-at bytes k) l (zero-add k))
+
+pub no-way-asked : (bytes : List ℕ) (n k : ℕ) → n ≤ k → nth (map (way-at bytes) (counting 0 n)) k ≡ None
+no-way-asked bytes n k l = nth-past (map (way-at bytes) (counting 0 n)) k (simp length-map-counting l)
 
 module _ (bytes : List ℕ) (es : List Entry) (h : Holds form.Job bytes es) where
   job : Job es

@@ -22,6 +22,7 @@ pub use file_section::FileSection;
 pub use form::Form;
 pub use kind::Kind;
 pub use listing::list_file;
+pub use network::FileSectionNetwork;
 pub use reader::Reader;
 pub use record::Record;
 pub use section::Section;

@@ -9,9 +9,9 @@ use super::kind::Kind;
 use super::reader::Reader;
 use super::reader::Stage;
 use super::record::Record;
-use networks::Refusal;
 use super::section::Section;
 use super::section::SectionPartialEq;
+use networks::Refusal;
 
 impl Stage {
     fn due(self) -> Section
