@@ -9,3 +9,4 @@ pub mod Progress
 pub mod Puts
 pub mod Lined
 pub mod Sectioned
+pub mod Netted

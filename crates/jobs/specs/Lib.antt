@@ -6,3 +6,4 @@ pub mod Reading
 pub mod Writing
 pub mod Listing
 pub mod Sections
+pub mod NetText
