@@ -4,7 +4,10 @@ ghost use lib.Chars.{codes};
 ghost use Rattle.std.specs.Of.String.{string-bytes};
 ghost use Rattle.std.specs.Vec.{made};
 ghost use Rattle.std.specs.Written.{signed};
+ghost use Rattle.jobs.specs.Sections.{section-net};
 ghost use Rattle.jobs.specs.NetText.{ends-words, way-line, net-header, net-text};
+use super::file_section::FileSection;
+use super::network::FileSectionNetwork;
 use costs::Cost;
 use costs::Pair;
 use costs::PairCost;
@@ -32,7 +35,12 @@ fn words_of_pair(heap: Global, cost: Pair<Whole, Whole>) -> Result<String, Alloc
     format!(heap, " cost {first} {second}\n")
 }
 
-fn line_of_way(heap: Global, k: usize, ends: Ends, cost: Pair<Whole, Whole>) -> Result<String, AllocError>
+fn line_of_way(
+    heap: Global,
+    k: usize,
+    ends: Ends,
+    cost: Pair<Whole, Whole>,
+) -> Result<String, AllocError>
     ensures { λ r. ⌜ made r (λ t. string-bytes t ≡ way-line k (record { tail = ends .tail; head = ends .head; limit = ends .limit; cost = cost })) ⌝ }
 {
     let mut line = words_of_ends(heap, k, ends)?;
@@ -47,14 +55,18 @@ fn header(heap: Global, places: usize, ways: usize) -> Result<String, AllocError
     format!(heap, "places {places} ways {ways}\n")
 }
 
-// A network whose costs are pairs of whole numbers, in words.
-pub fn list_network<N: Network<Cost = Pair<Whole, Whole>>>(heap: Global, net: &N) -> Result<String, AllocError>
-    ensures { λ r. ⌜ made r (λ t. string-bytes t ≡ net-text (N·Network .means (now (net .entry)))) ⌝ }
+// The network of a job file, in words.
+pub fn list_network(heap: Global, net: &FileSection) -> Result<String, AllocError>
+    ensures { λ r. ⌜ made r (λ t. string-bytes t ≡ net-text (section-net (now (net .entry)))) ⌝ }
 {
     let mut text = header(heap, net.places(), net.ways())?;
     for k in 0..net.ways() {
-        let Some(ends) = net.way(k) else { unreachable() };
-        let Some(cost) = net.cost(k) else { unreachable() };
+        let Some(ends) = net.way(k) else {
+            unreachable()
+        };
+        let Some(cost) = net.cost(k) else {
+            unreachable()
+        };
         let line = line_of_way(heap, k, ends, cost)?;
         text.push_str(line.as_str())?;
     }
