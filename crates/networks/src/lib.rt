@@ -25,5 +25,7 @@ pub use sizes::Group;
 pub use sizes::Last;
 pub use table::WayTable;
 pub use table::WayTableNetwork;
-pub use way_list::WayList;
 pub use way_record::WayRecord;
+
+#[cfg(test)]
+mod tests;

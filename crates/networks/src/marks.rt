@@ -5,7 +5,7 @@ use super::refusal::Refusal;
 use super::way_list::WayList;
 
 impl WayList {
-    pub fn new() -> Self
+    pub(crate) fn new() -> Self
         ensures { λ r. ⌜ listed r ≡ [] ⌝ }
     {
         WayList {
@@ -14,7 +14,7 @@ impl WayList {
         }
     }
 
-    pub fn has(&self, k: usize) -> bool
+    pub(crate) fn has(&self, k: usize) -> bool
         ensures { λ r. ⌜ r ≡ has (listed (now (self .entry))) k ⌝ }
     {
         for i in 0..self.len {
@@ -26,7 +26,7 @@ impl WayList {
     }
 
     // Adds a number to the list of a layer over `ways` ways. One that is listed already is accepted and alters nothing.
-    pub fn add(&mut self, k: usize, ways: usize) -> Result<(), Refusal>
+    pub(crate) fn add(&mut self, k: usize, ways: usize) -> Result<(), Refusal>
         ensures { λ r. ⌜ Adds ways (listed (now (self .entry))) k r (listed (now (self .exit))) ⌝ }
     {
         if k >= ways {

@@ -1,7 +1,9 @@
 ghost use mathlib.Core.Path.{_≡_};
 ghost use mathlib.Core.List.{[]};
+ghost use mathlib.Core.Bool.{cond};
+ghost use lib.IntN.{pos};
 ghost use lib.ListN.{length};
-ghost use Rattle.networks.specs.Layers.{listed, redraws, redraw-way, with-ways, Adds};
+ghost use Rattle.networks.specs.Layers.{listed, has, redraw-way, with-ways, Adds};
 use super::ends::Ends;
 use super::network::Network;
 use super::refusal::Refusal;
@@ -20,14 +22,10 @@ pub struct Redraw<N> {
 }
 
 // 1 if way `k` is listed, else 0.
-fn mark(list: &WayList, k: usize) -> Whole
-    ensures { λ r. ⌜ r ≡ redraws (listed (now (list .entry))) k ⌝ }
+fn mark(list: &WayList, k: usize) -> i64
+    ensures { λ r. ⌜ r ≡ pos (cond (has (listed (now (list .entry))) k) 1 0) ⌝ }
 {
-    if list.has(k) {
-        Whole::read(1)
-    } else {
-        Whole::read(0)
-    }
+    if list.has(k) { 1 } else { 0 }
 }
 
 impl<N: Network> Redraw<N> {
@@ -70,9 +68,7 @@ pub impl<N: Network> Network for Redraw<N> as RedrawNetwork {
 
     fn cost(&self, k: usize) -> Option<Pair<Whole, N::Cost>> {
         let second = self.below.cost(k)?;
-        Some(Pair {
-            first: mark(&self.list, k),
-            second,
-        })
+        let first = Whole::read(mark(&self.list, k));
+        Some(Pair { first, second })
     }
 }
