@@ -5,3 +5,4 @@ pub mod State
 pub mod Checks
 pub mod Rules
 pub mod Law
+pub mod Determined
