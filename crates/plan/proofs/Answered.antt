@@ -30,16 +30,17 @@ use Rattle.plan.specs.State.{State, rest, Event}
 use Rattle.plan.specs.Checks.{open-fault, book-fault, route-fault, settle-fault}
 use Rattle.plan.specs.Rules.{along, move, At-rest, Source, Target, Sends, Stuck, Repeats, none, more, Ends, Rule, open-refused, open-losing, open-accepted, book-refused, book-accepted, route-refused, route-settled, route-blocked, route-sent, settle-refused, settle-ran}
 use Rattle.plan.specs.Law.{Trace, positive}
+use Rattle.plan.specs.Standing.{Standing}
 use Rattle.plan.proofs.Flow as flow
 use Rattle.plan.proofs.Flow.{total, Carries, Net as FNet, Row, room, price-of}
 use Rattle.plan.proofs.Sums.{total-none}
 use Rattle.plan.proofs.Costs.{nats, at-least-or}
-use Rattle.plan.proofs.Bridge.{seen, routed, route, losing-cheap, cheap-losing}
+use Rattle.plan.proofs.Bridge.{seen, joined-seen, routed, route, losing-cheap, cheap-losing}
 use Rattle.plan.proofs.Augment.{Reached}
 use Rattle.plan.proofs.Decide.{lowest-below, cheap-or}
 use Rattle.plan.proofs.Moves.{positive-is, positive-none, none-owed}
-use Rattle.plan.proofs.Faults.{open-joined, open-none}
-use Rattle.plan.proofs.Standing.{Good, reached, sends-good}
+use Rattle.plan.proofs.Faults.{open-passed, open-none}
+use Rattle.plan.proofs.Standing.{inside, level, reached, sends-stands}
 use Rattle.plan.proofs.Stands.{is-good}
 
 some-or : {A : Type 0} (o : Option A) → (o ≡ None) ⊎ ((a : A) × (o ≡ Some a))
@@ -69,7 +70,7 @@ module _ {g : Group} (net : FNet g) (f : List ℕ) where
   room-most top y (s ∷ ss) h all = let a = room-most top y ss h (all .1) in let b = all .0 .enough in omega arith
 
 module _ {C R : Type 0} (K : Kind C R) (net : Net C) where
-  module _ {h : List Event} {s : State} (good : Good K net h s) where
+  module _ {s : State} (stands : Standing K net s) where
     -- the least cost of a place that is reached
     least-at : (u v : ℕ) (a : (ss : List Step) × flow.Route (seen K net) (s .loads) 1 u ss v × ((rs : List Step) → Row (seen K net) (s .loads) u rs v → K .group .le (price-of (seen K net) ss) (price-of (seen K net) rs))) →
         Least K net (s .loads) u v (price-of (seen K net) (a .0))
@@ -153,7 +154,7 @@ module _ {C R : Type 0} (K : Kind C R) (net : Net C) where
 
     pick : (u : ℕ) → u < net .places → (n : ℕ) → None-reached u n ⊎ Pick u n
     pick u l zero = inl (λ v b neg r. omega arith)
-    pick u l (suc n) = next-place u n (reached K net good u l n) (pick u l n)
+    pick u l (suc n) = next-place u n (reached K net stands u l n) (pick u l n)
 
     abbrev Next : Type 0
     Next = (u : ℕ) × (t : ℕ) × (x : ℕ) × (s′ : State) × Sends K net s u t x s′
@@ -195,29 +196,29 @@ module _ {C R : Type 0} (K : Kind C R) (net : Net C) where
     turn = ⊎-elim
         (λ p. let source : Source K net s (p .0) = record { place = p .1; positive = p .2; lowest = p .3 } in
         inr (⊎-elim (λ all. inl (p .0, record { source = source; none = all })) (λ q. inr (send-on (p .0) source q)) (pick (p .0) (p .1) (net .places))))
-        (λ all. inl (none-owed (net .places) (rest s) (total-none nats (net .places) _ (λ k l. positive-none (rest s k) (all k l))) (good .level)))
+        (λ all. inl (none-owed (net .places) (rest s) (total-none nats (net .places) _ (λ k l. positive-none (rest s k) (all k l))) (level K net stands)))
         (lowest-below (net .places) (λ v. pos 0 <ℤ rest s v) (λ v. rest s v ≤ℤ pos 0) (λ v l. by-ltZ (pos 0) (rest s v) inl inr))
 
-  pub runs : {h : List Event} (budget : ℕ) (s : State) → Good K net h s → (n : ℕ) × (e : Ending) × (s′ : State) × (n ≤ budget) × Repeats K net n s s′ × Ends K net budget n s′ e
-  runs zero s good = ⊎-elim
+  pub runs : (budget : ℕ) (s : State) → Standing K net s → (n : ℕ) × (e : Ending) × (s′ : State) × (n ≤ budget) × Repeats K net n s s′ × Ends K net budget n s′ e
+  runs zero s stands = ⊎-elim
       (λ quiet. (0, ending.Settled, s, omega arith, none s, quiet))
       (λ other. (0, ending.Unfinished, s, omega arith, none s, (refl, ⊎-elim (stuck-off s) (sends-off s) other)))
-      (turn good)
+      (turn stands)
     where
       stuck-off : (s : State) → (u : ℕ) × Stuck K net s u → At-rest K net s → ⊥
       stuck-off s q quiet = let e = quiet (q .0) (q .1 .source .place) in let p = q .1 .source .positive in omega (arith, ints)
 
       sends-off : (s : State) → (u : ℕ) × (t : ℕ) × (x : ℕ) × (s′ : State) × Sends K net s u t x s′ → At-rest K net s → ⊥
       sends-off s q quiet = let e = quiet (q .0) (q .4 .source .place) in let p = q .4 .source .positive in omega (arith, ints)
-  runs (suc budget) s good = ⊎-elim
+  runs (suc budget) s stands = ⊎-elim
       (λ quiet. (0, ending.Settled, s, omega arith, none s, quiet))
       (λ other. ⊎-elim
       (λ q. (0, ending.Blocked (q .0), s, omega arith, none s, (omega arith, q .1)))
-      (λ q. let r = runs budget (q .3) (sends-good K net good (q .4)) in
+      (λ q. let r = runs budget (q .3) (sends-stands K net stands (q .4)) in
       let l = r .3 in
       (suc (r .0), r .1, r .2, omega arith, more (r .0) (q .0) (q .1) (q .2) s (q .3) (r .2) (q .4) (r .4), one-more (r .0) (r .2) (r .1) (r .5)))
       other)
-      (turn good)
+      (turn stands)
     where
       one-more : (n : ℕ) (s′ : State) (e : Ending) → Ends K net budget n s′ e → Ends K net (suc budget) (suc n) s′ e
       one-more n s′ ending.Settled x = x
@@ -232,7 +233,7 @@ module _ {C R : Type 0} (K : Kind C R) (net : Net C) where
       (λ e. ⊎-elim
       (λ c. (Refused LosingRing, s, open-losing s e (cheap-losing K net _ c)))
       (λ n. (Opened, _, open-accepted s e (λ l. n (losing-cheap K net _ l))))
-      (cheap-or (seen K net) (replicate (length (net .ways)) 0) (open-joined K net s work e)))
+      (cheap-or (seen K net) (replicate (length (net .ways)) 0) (joined-seen K net (inside K net (open-passed K net s work e)))))
       (λ q. (Refused (q .0), s, open-refused s (q .0) (q .1)))
       (some-or (open-fault K net s work))
   answers {h} {s} work t (Book from to amount) = ⊎-elim
@@ -246,11 +247,11 @@ module _ {C R : Type 0} (K : Kind C R) (net : Net C) where
       (λ q. (Blocked (q .0), s, route-blocked s (q .0) e (q .1)))
       (λ q. (Sent (q .0) (q .1) (q .2), q .3, route-sent s (q .3) (q .0) (q .1) (q .2) e (q .4)))
       other)
-      (turn (is-good K net t (open-none (s .open?) _ e))))
+      (turn (is-good K net t (open-none (s .open?) _ e) .stands)))
       (λ q. (Refused (q .0), s, route-refused s (q .0) (q .1)))
       (some-or (route-fault net s work))
   answers {h} {s} work t (Settle budget) = ⊎-elim
-      (λ e. let r = runs budget s (is-good K net t (open-none (s .open?) _ e)) in
+      (λ e. let r = runs budget s (is-good K net t (open-none (s .open?) _ e) .stands) in
       (Ran (r .0) (r .1), r .2, settle-ran s (r .2) budget (r .0) (r .1) e (r .3) (r .4) (r .5)))
       (λ q. (Refused (q .0), s, settle-refused s budget (q .0) (q .1)))
       (some-or (settle-fault net s budget work))

@@ -19,6 +19,7 @@ use Rattle.plan.specs.declared.step.Step.{Step}
 use Rattle.plan.specs.declared.step.Step.the-variants.{Ahead, Back}
 use Rattle.plan.specs.Steps.{Apart, Gives, forth, behind, Leads, there, then, Route, Ring, Losing}
 use Rattle.plan.specs.Rules.{along}
+use Rattle.plan.specs.Standing.{Inside, Potential}
 use Rattle.plan.proofs.Flow as flow
 use Rattle.plan.proofs.Flow.{total, times, unit-of, Carries, which, from, to, price, price-of, room, way, count, stops, send, Row, Cheap-ring}
 use Rattle.plan.proofs.Sums.{Adds, total-same, total-none}
@@ -100,6 +101,14 @@ module _ {C R : Type 0} (K : Kind C R) (net : Net C) where
   pub seen-keeps : (f : List ℕ) → flow.Keeps seen f → Keeps net f
   seen-keeps f h = at-within K (net .ways) f (h .whole) (h .within)
 
+  pub joined-seen : Inside net → flow.Joined seen
+  joined-seen inside = record { tails = λ k l. at k l .0; heads = λ k l. at k l .1 }
+    where
+      at : (k : ℕ) → k < count seen → (way seen k .tail < net .places) × (way seen k .head < net .places)
+      at k l =
+          let w = way-nth K (net .ways) k l in
+          subst (λ z. (z .tail < net .places) × (z .head < net .places)) (sym (nth-way K (net .ways) k (w .0) (w .1) .0)) (inside k (w .0) (w .1))
+
   pub cost-seen : (f : List ℕ) → flow.Keeps seen f → costs K (net .ways) f ≡ flow.cost seen f
   cost-seen f h = costs-is K (net .ways) f (h .whole)
 
@@ -134,6 +143,14 @@ module _ {C R : Type 0} (K : Kind C R) (net : Net C) where
         let i = nth-way K (net .ways) k (w .0) (w .1) .0 in
         let l : 1 ≤ getD f k 0 = c .enough in
         subst (λ z. Gives K net f (Back k) (z .head) (z .tail) (K .group .opp (z .cost)) (getD f k 0)) (sym i) (behind k (w .0) (w .1) (omega arith))
+
+    pub potential-seen : (π : ℕ → K .group .Carrier) → Potential K net f π → flow.Potential seen f π
+    potential-seen π valid s c = valid s _ _ _ _ (gives s c)
+
+    pub seen-potential : (π : ℕ → K .group .Carrier) → flow.Potential seen f π → Potential K net f π
+    seen-potential π valid s u v c r given-by =
+        let i = given given-by in
+        subst₂ (K .group .le) (ap π (i .ends)) (ap₂ (λ p q. K .group .plus (π p) q) (i .starts) (i .costs)) (valid s (record { real = i .real; enough = rw (i .room) (i .some) }))
 
     pub record Led (x u : ℕ) (ss : List Step) (vs : List ℕ) (v : ℕ) (c : K .group .Carrier) : Type 0 where
       pub leads : flow.Leads seen u ss v

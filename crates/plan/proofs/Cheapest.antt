@@ -11,7 +11,6 @@ use Rattle.std.proofs.shelf.Tests.{cases-lt}
 use Rattle.costs.specs.Group.{Group}
 use Rattle.plan.proofs.Flow.{unit-of}
 use Rattle.plan.proofs.Flow.{Net, Joined, Carries, Potential, Step, Ahead, Back, from, to, price, price-of, Leads, Row, Route, No-cheap}
-use Rattle.plan.proofs.Claims.{Has-potential, Cheapest, Nearest}
 use Rattle.plan.proofs.Shorter.{price-append, leads-append, Simple, simple, simple-short}
 use Rattle.plan.proofs.Least.{Least, least-same, least-below, Short-row, best}
 
@@ -51,10 +50,10 @@ row-more net f u s ss c r = record {
 pub price-more : {g : Group} (net : Net g) (s : Step) (ss : List Step) → price-of net (ss ++ (s ∷ [])) ≡ g .plus (price-of net ss) (price net s)
 price-more {g} net s ss = price-append net ss (s ∷ []) ∙ ap (g .plus (price-of net ss)) (unit-of g _)
 
-pub nearest : (g : Group) → Nearest g
-nearest g net f u s ss rs c row least = subst (g .le _) (price-more net s ss) (least _ (row-more net f u s ss c row))
-
-pub cheapest : (g : Group) → Cheapest g
+-- a place that is reached at all is reached by a cheapest route
+pub cheapest : (g : Group) (net : Net g) (f : List ℕ) (u v : ℕ) → Joined net → No-cheap net f → u < net .places →
+    ((ss : List Step) → Row net f u ss v → ⊥) ⊎
+    ((ss : List Step) × Route net f 1 u ss v × ((rs : List Step) → Row net f u rs v → g .le (price-of net ss) (price-of net rs)))
 cheapest g net f u v joined sound b = by (least-row net f joined sound u v b)
   where
     by : Least net (λ ss. Row net f u ss v) → ((ss : List Step) → Row net f u ss v → ⊥) ⊎ ((ss : List Step) × Route net f 1 u ss v × ((rs : List Step) → Row net f u rs v → g .le (price-of net ss) (price-of net rs)))
@@ -63,7 +62,11 @@ cheapest g net f u v joined sound b = by (least-row net f joined sound u v b)
         let s = simple net f sound u v (a .0) (a .1 .leads) (a .1 .opens) in
         inr (s .steps, record { leads = s .leads; apart = s .apart; carries = s .opens }, λ rs row. g .trans _ _ _ (s .cheaper) (a .2 rs row))
 
-pub has-potential : (g : Group) → Has-potential g
+-- a potential: at each place, the least that a row from any place to it costs
+pub has-potential : (g : Group) (net : Net g) (f : List ℕ) → Joined net → No-cheap net f →
+    (π : ℕ → g .Carrier) × Potential net f π ×
+    ((v : ℕ) → v < net .places → (u : ℕ) × (ss : List Step) × (u < net .places) × Row net f u ss v × (π v ≡ price-of net ss)) ×
+    ((u v : ℕ) (ss : List Step) → u < net .places → Row net f u ss v → g .le (π v) (price-of net ss))
 unfolding level
 has-potential g net f joined sound = (
   level net f joined sound,

@@ -14,7 +14,6 @@ use Rattle.costs.specs.Group.{Group}
 use Rattle.plan.proofs.Flow.{total, times, unit-of}
 use Rattle.costs.specs.Whole.{whole-group}
 use Rattle.plan.proofs.Flow.{Net, Joined, Keeps, Carries, Closed, Step, Ahead, Back, way, count, leaving, out, into, over}
-use Rattle.plan.proofs.Claims.{Cut, Short}
 use Rattle.plan.proofs.Sums.{total-same, total-add, total-none}
 use Rattle.plan.proofs.Costs.{adds, total-le, weigh-all, by-places}
 
@@ -50,8 +49,9 @@ module _ {g : Group} (net : Net g) (R : ℕ → Bool) where
       ∙ total-same (adds whole-group) (net .places) _ _
       (λ v h. ap (λ z. cond (R v) (leaving net l v) (pos 0) +ℤ z) (times-mark (into net l v) (R v)) ∙ difference (out net l v) (into net l v) (R v) ∙ sym (times-mark (out net l v) (R v)))
 
-pub cut : (g : Group) → Cut g
-cut g net f f′ R joined _ closed keeps′ =
+cut : (g : Group) (net : Net g) (f f′ : List ℕ) (R : ℕ → Bool) → Joined net → Closed net f R → Keeps net f′ →
+    over R (net .places) (leaving net f′) ≤ℤ over R (net .places) (leaving net f)
+cut g net f f′ R joined closed keeps′ =
     let m = count net in
     let n = net .places in
     let tail : ℕ → ℕ = λ k. way net k .tail in
@@ -94,10 +94,16 @@ some-more (suc n) u t h l p =
     omega (arith, ints))
     (cases-eq u n)
 
-pub short : (g : Group) → Short g
-short g net f f′ R b rest u joined keeps closed booked none-short un ru over-zero keeps′ meets =
+-- so where such a set has a rest to send out, no load meets the bookings b
+pub short : (g : Group) (net : Net g) (f f′ : List ℕ) (R : ℕ → Bool) (b rest : ℕ → ℤ) (u : ℕ) →
+    Joined net → Closed net f R →
+    ((v : ℕ) → v < net .places → b v ≡ leaving net f v +ℤ rest v) →
+    ((v : ℕ) → v < net .places → R v ≡ true → pos 0 ≤ℤ rest v) →
+    u < net .places → R u ≡ true → pos 0 <ℤ rest u →
+    Keeps net f′ → ((v : ℕ) → v < net .places → leaving net f′ v ≡ b v) → ⊥
+short g net f f′ R b rest u joined closed booked none-short un ru over-zero keeps′ meets =
     let n = net .places in
-    let most = cut g net f f′ R joined keeps closed keeps′ in
+    let most = cut g net f f′ R joined closed keeps′ in
     let is : over R n (leaving net f′) ≡ over R n (leaving net f) +ℤ over R n rest =
     total-same (adds whole-group) n _ _ (λ v l. ap (λ z. cond (R v) z (pos 0)) (meets v l ∙ booked v l) ∙ parted (R v) _ _)
     ∙ total-add (adds whole-group) n _ _ in

@@ -1,5 +1,4 @@
 pub mod Flow
-pub mod Claims
 pub mod Sums
 pub mod Costs
 pub mod Optimal
@@ -18,4 +17,4 @@ pub mod Standing
 pub mod Stands
 pub mod Decide
 pub mod Answered
-pub mod Further
+pub mod Determined

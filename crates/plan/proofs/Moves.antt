@@ -15,6 +15,7 @@ use Rattle.std.proofs.shelf.Tests.{cases-eq, eq-eqb, ne-eqb, lt-ltb}
 use Rattle.plan.specs.State.{State, rest}
 use Rattle.plan.specs.Rules.{move}
 use Rattle.plan.specs.Law.{positive, owed}
+use Rattle.plan.specs.Standing.{rests-below}
 use Rattle.plan.proofs.Flow.{total}
 use Rattle.costs.specs.Whole.{whole-group}
 use Rattle.plan.proofs.Sums.{total-same, total-none, total-add, total-pick}
@@ -90,6 +91,10 @@ positive-none (negsuc n) h = refl
 pub owed-is : (s : State) (n : ℕ) → owed s n ≡ total 0 _+_ n (λ v. positive (rest s v))
 owed-is s zero = refl
 owed-is s (suc n) = ap (λ k. k + positive (rest s n)) (owed-is s n)
+
+pub rests-is : (s : State) (n : ℕ) → rests-below s n ≡ all-of n (rest s)
+rests-is s zero = refl
+rests-is s (suc n) = ap (λ z. z +ℤ rest s n) (rests-is s n)
 
 abbrev bit : ℕ → ℕ → ℕ → ℕ
 bit x u v = cond (eqb u v) x 0

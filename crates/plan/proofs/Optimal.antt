@@ -9,7 +9,6 @@ use Rattle.std.proofs.shelf.Signed.{ints}
 use Rattle.costs.specs.Group.{Group}
 use Rattle.plan.proofs.Flow.{total, times, unit-of}
 use Rattle.plan.proofs.Flow.{Net, Joined, Keeps, Carries, Potential, Step, Ahead, Back, way, count, cost, leaving, out, into}
-use Rattle.plan.proofs.Claims.{Optimal}
 use Rattle.plan.proofs.Sums.{left-comm, total-same, total-add}
 use Rattle.plan.proofs.Costs.{adds, cancel, undo, times-add, times-plus, weigh-all, by-places}
 
@@ -20,8 +19,10 @@ taken-back g x y c h = subst (g .le (g .plus x c)) (g .assoc _ _ _ ∙ ap (g .pl
 crossed : (a b c d : ℕ) → pos a -ℤ pos b ≡ pos c -ℤ pos d → c + b ≡ a + d
 crossed a b c d e = omega (arith, ints)
 
-pub optimal : (g : Group) → Optimal g
-optimal g net f f′ π joined _ valid keeps′ same =
+-- a load with a potential is the cheapest of those that let the same leave each place
+pub optimal : (g : Group) (net : Net g) (f f′ : List ℕ) (π : ℕ → g .Carrier) →
+    Joined net → Potential net f π → Keeps net f′ → ((v : ℕ) → v < net .places → leaving net f′ v ≡ leaving net f v) → g .le (cost net f) (cost net f′)
+optimal g net f f′ π joined valid keeps′ same =
     let m = count net in
     let n = net .places in
     let tail : ℕ → ℕ = λ k. way net k .tail in

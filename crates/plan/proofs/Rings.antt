@@ -5,8 +5,7 @@ use Prim.Native.Nat.{ℕ}
 use Rattle.std.specs.shelf.Lists.{All}
 use Rattle.costs.specs.Group.{Group}
 use Rattle.plan.proofs.Flow.{unit-of}
-use Rattle.plan.proofs.Flow.{Net, Carries, Potential, Step, from, to, price, Leads, Row, Tight, price-of}
-use Rattle.plan.proofs.Claims.{No-cheap-ring, Tight-row}
+use Rattle.plan.proofs.Flow.{Net, Carries, Potential, Step, from, to, price, Leads, Row, Tight, price-of, No-cheap}
 use Rattle.plan.proofs.Sums.{unit-left}
 use Rattle.plan.proofs.Costs.{adds, cancel}
 
@@ -19,12 +18,14 @@ rises g net f π u v (s ∷ ss) valid leads clear =
     let rest = rises g net f π (to net s) v ss valid (leads .1) (clear .1) in
     subst (g .le (π v)) (g .assoc _ _ _) (g .trans _ _ _ rest (g .shift _ _ (price-of net ss) first))
 
-pub no-cheap-ring : (g : Group) → No-cheap-ring g
+-- so no ring costs less than zero
+pub no-cheap-ring : (g : Group) (net : Net g) (f : List ℕ) (π : ℕ → g .Carrier) → Potential net f π → No-cheap net f
 no-cheap-ring g net f π valid ring =
     ring .other (g .antisym _ _ (ring .below)
     (cancel g (g .zero) (price-of net (ring .first ∷ ring .rest)) (π (ring .place))
     (subst₂ (g .le) (sym (unit-left (adds g) _)) (g .comm _ _) (rises g net f π (ring .place) (ring .place) (ring .first ∷ ring .rest) valid (ring .row .leads) (ring .row .opens)))))
 
+-- a row over which a potential rises by all that it costs is tight at each step
 pub tight-steps : (g : Group) (net : Net g) (f : List ℕ) (π : ℕ → g .Carrier) (u v : ℕ) (ss : List Step) →
     Potential net f π → Leads net u ss v → All (Carries net f 1) ss → g .le (g .plus (π u) (price-of net ss)) (π v) → All (Tight net π) ss
 tight-steps g net f π u v [] valid leads clear h = tt
@@ -36,7 +37,3 @@ tight-steps g net f π u v (s ∷ ss) valid leads clear h =
       rw (leads .0) (g .antisym _ _ first least),
       tight-steps g net f π (to net s) v ss valid (leads .1) (clear .1) (g .trans _ _ _ (g .shift _ _ _ first) h′),
     )
-
-pub tight-row : (g : Group) → Tight-row g
-tight-row g net f π u v ss valid row e =
-    tight-steps g net f π u v ss valid (row .leads) (row .opens) (subst (λ z. g .le z (π v)) e (g .refl-le (π v)))

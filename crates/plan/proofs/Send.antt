@@ -15,7 +15,6 @@ use Rattle.std.proofs.shelf.Tests.{cases-eq, eq-eqb, ne-eqb}
 use Rattle.costs.specs.Group.{Group}
 use Rattle.plan.proofs.Flow.{total, times, unit-of}
 use Rattle.plan.proofs.Flow.{Net, Keeps, Carries, Potential, Step, Ahead, Back, which, from, to, price, room, way, count, leaving, out, into, Leads, Apart, stops, Route, send, send-step, Tight}
-use Rattle.plan.proofs.Claims.{Sends, Sent, Stays}
 use Rattle.plan.proofs.Costs.{undo}
 
 pub all-with : {X : Type 0} {P Q : X → Type 0} (R : X → Type 0) → ((x : X) → P x → Q x → R x) → (xs : List X) → All P xs → All Q xs → All R xs
@@ -124,6 +123,7 @@ module _ {g : Group} (net : Net g) where
   still-carries : (f : List ℕ) (x y : ℕ) (s d : Step) → which d ≢ which s → Carries net f y d → Carries net (send-step x s f) y d
   still-carries f x y s d ne c = record { real = c .real; enough = rw (other-room f x s d ne) (c .enough) }
 
+  -- x more, sent along a route from u to v, leaves u, arrives at v, and passes all other places
   pub along : (x u v : ℕ) (ss : List Step) (f : List ℕ) → Keeps net f → Leads net u ss v → Apart (stops net u ss) → All (Carries net f x) ss →
       Keeps net (send x ss f) × ((w : ℕ) → leaving net (send x ss f) w +ℤ spot x v w ≡ leaving net f w +ℤ spot x u w)
   along x u v [] f keeps leads apart carries = (keeps, λ w. ap (λ p. leaving net f w +ℤ spot x p w) (sym leads))
@@ -141,28 +141,8 @@ module _ {g : Group} (net : Net g) where
   tight-both π (Back k) (Ahead j) e t = rw e (subst (g .le _) (sym (ap (λ z. g .plus z (way net k .cost)) t ∙ g .assoc _ _ _ ∙ ap (g .plus (π (way net k .head))) (g .comm _ _ ∙ g .inverse _) ∙ unit-of g _)) (g .refl-le _))
   tight-both π (Back k) (Back j) e t = rw e (subst (g .le _) t (g .refl-le _))
 
-pub sends : (g : Group) → Sends g
-sends g net f x u ss v keeps route =
-    let all = along net x u v ss f keeps (route .leads) (route .apart) (route .carries) in
-    let here : (p : ℕ) → spot x p p ≡ pos x = λ p. ap (λ b. cond b (pos x) (pos 0)) (eq-eqb p p refl) in
-    let away : (p w : ℕ) → p ≢ w → spot x p w ≡ pos 0 = λ p w ne. ap (λ b. cond b (pos x) (pos 0)) (ne-eqb p w ne) in
-    record {
-      keeps = all .0;
-      start = λ ne. started _ _ _ _ (all .1 u) (away v u (λ e. ne (sym e))) (here u);
-      end = λ ne. ended _ _ _ _ (all .1 v) (here v) (away u v ne);
-      others = λ w nu nv. passed _ _ _ _ (all .1 w) (away v w (λ e. nv (sym e))) (away u w (λ e. nu (sym e)));
-    }
-  where
-    started : (a b p q : ℤ) → a +ℤ p ≡ b +ℤ q → p ≡ pos 0 → q ≡ pos x → a ≡ b +ℤ pos x
-    started a b p q e i j = omega (arith, ints)
-
-    ended : (a b p q : ℤ) → a +ℤ p ≡ b +ℤ q → p ≡ pos x → q ≡ pos 0 → a ≡ b -ℤ pos x
-    ended a b p q e i j = omega (arith, ints)
-
-    passed : (a b p q : ℤ) → a +ℤ p ≡ b +ℤ q → p ≡ pos 0 → q ≡ pos 0 → a ≡ b
-    passed a b p q e i j = omega (arith, ints)
-
-pub stays : (g : Group) → Stays g
+-- a potential stays one when more is sent along steps that are tight for it
+pub stays : (g : Group) (net : Net g) (f : List ℕ) (π : ℕ → g .Carrier) (x : ℕ) (ss : List Step) → Potential net f π → All (Tight net π) ss → Potential net (send x ss f) π
 stays g net f π x [] valid tight = valid
 stays g net f π x (s ∷ ss) valid tight =
     stays g net (send-step x s f) π x ss

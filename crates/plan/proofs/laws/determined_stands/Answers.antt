@@ -1,4 +1,4 @@
-use Rattle.plan.proofs.Further.{determined}
+use Rattle.plan.proofs.Determined.{determined}
 use Rattle.plan.proofs.laws.determined_stands.Needs as need
 
 pub returns : need.returns

@@ -26,6 +26,7 @@ use Rattle.plan.specs.declared.calls.Ending.the-variants as ending
 use Rattle.plan.specs.State.{State, rest, Event}
 use Rattle.plan.specs.Rules.{At-rest, Source, Target, Sends, Stuck, Repeats, none, more, Ends, Rule, open-refused, open-losing, open-accepted, book-refused, book-accepted, route-refused, route-settled, route-blocked, route-sent, settle-refused, settle-ran}
 use Rattle.plan.specs.Law.{Trace, owed}
+use Rattle.plan.specs.Standing.{Standing}
 use Rattle.plan.specs.Determined.{Determined, shape}
 use Rattle.plan.proofs.Flow.{Row, Potential, No-cheap, price-of, leaving}
 use Rattle.plan.proofs.Bridge.{seen, routed, route, leaving-seen}
@@ -35,9 +36,8 @@ use Rattle.plan.proofs.Moves.{here, away, spot-low}
 use Rattle.plan.proofs.Augment.{in-reach, reach-closed, reach-start, reach-route}
 use Rattle.plan.proofs.Shorter.{simple}
 use Rattle.plan.proofs.Cheapest.{has-potential}
-use Rattle.plan.proofs.Rings.{no-cheap-ring}
 use Rattle.plan.proofs.Faults.{some-none, open-none}
-use Rattle.plan.proofs.Standing.{Good, some, apart, rests-sent, reached, sends-good, sends-owed, repeats-good, repeats-owed}
+use Rattle.plan.proofs.Standing.{joined, keeps, no-cheap, reached, some, apart, rests-sent, sends-stands, sends-owed, Good, repeats-good}
 use Rattle.plan.proofs.Stands.{is-good}
 use Rattle.plan.proofs.Answered.{answers}
 
@@ -109,11 +109,11 @@ module _ {C R : Type 0} (K : Kind C R) (net : Net C) where
   agrees (settle-ran s s₁ budget n z e l k m) (settle-refused _ _ q i) = clash _ q i e
   agrees (settle-ran s s₁ budget n z e l k m) (settle-ran _ s₂ _ n₂ z₂ i l₂ k₂ m₂) = refl
 
-  priced : {h : List Event} {s : State} → Good K net h s → (v : ℕ) → v < net .places → (c : K .group .Carrier) × Price K net (s .loads) v c
-  priced {h} {s} good v l =
+  priced : {s : State} → Standing K net s → (v : ℕ) → v < net .places → (c : K .group .Carrier) × Price K net (s .loads) v c
+  priced {s} stands v l =
       let g = K .group in
-      let quiet : No-cheap (seen K net) (s .loads) = no-cheap-ring g (seen K net) (s .loads) (good .potential .0) (good .potential .1) in
-      let p = has-potential g (seen K net) (s .loads) (good .joined) quiet in
+      let quiet = no-cheap K net stands in
+      let p = has-potential g (seen K net) (s .loads) (joined K net stands) quiet in
       let r = p .2 v l in
       let m = simple (seen K net) (s .loads) quiet (r .0) v (r .1) (r .3 .leads) (r .3 .opens) in
       let e : price-of (seen K net) (m .steps) ≡ p .0 v =
@@ -127,8 +127,8 @@ module _ {C R : Type 0} (K : Kind C R) (net : Net C) where
 
   falls : {h : List Event} {s s′ : State} {work u t x : ℕ} → Trace K net h s → Rule K net work s Route-call (Sent u t x) s′ → (1 ≤ x) × (owed s′ (net .places) + x ≡ owed s (net .places))
   falls t (route-sent s s′ u v x e z) =
-      let good = is-good K net t (open-none (s .open?) _ e) in
-      (some K net good z, sends-owed K net good z)
+      let stands = is-good K net t (open-none (s .open?) _ e) .stands in
+      (some K net stands z, sends-owed K net stands z)
 
   ends : (budget n : ℕ) (s : State) (e e′ : Ending) → Ends K net budget n s e → Ends K net budget n s e′ → e ≡ e′
   ends budget n s ending.Settled ending.Settled p q = refl
@@ -149,14 +149,14 @@ module _ {C R : Type 0} (K : Kind C R) (net : Net C) where
   unaltered (settle-refused s budget r e) = refl
 
   -- no rest rises above a bound that is not below zero
-  sends-top : {h : List Event} {s s′ : State} {u t x : ℕ} → Good K net h s → Sends K net s u t x s′ → (v : ℕ) (z : ℤ) → v < net .places → pos 0 ≤ℤ z → rest s v ≤ℤ z → rest s′ v ≤ℤ z
-  sends-top {h} {s} {s′} {u} {t} {x} good z v top l low under =
-      let e = rests-sent K net good z v l in
+  sends-top : {s s′ : State} {u t x : ℕ} → Standing K net s → Sends K net s u t x s′ → (v : ℕ) (z : ℤ) → v < net .places → pos 0 ≤ℤ z → rest s v ≤ℤ z → rest s′ v ≤ℤ z
+  sends-top {s} {s′} {u} {t} {x} stands z v top l low under =
+      let e = rests-sent K net stands z v l in
       let w = z .wanted in
       ⊎-elim
       (λ i. let a : rest s t ≡ rest s v = ap (rest s) i in
       let b : spot x t v ≡ pos x = subst (λ p. spot x t p ≡ pos x) i (here x t) in
-      let c : spot x u v ≡ pos 0 = away x u v (λ j. apart K net good z (j ∙ sym i)) in
+      let c : spot x u v ≡ pos 0 = away x u v (λ j. apart K net stands z (j ∙ sym i)) in
       omega (arith, ints))
       (λ ni. let b : spot x t v ≡ pos 0 = away x t v ni in
       let c = spot-low x u v in
@@ -164,25 +164,25 @@ module _ {C R : Type 0} (K : Kind C R) (net : Net C) where
       (cases-eq t v)
 
   -- only the lowest source has less to send
-  sends-low : {h : List Event} {s s′ : State} {u t x : ℕ} → Good K net h s → Sends K net s u t x s′ → (v : ℕ) → v < net .places → u ≢ v → rest s v ≤ℤ rest s′ v
-  sends-low {h} {s} {s′} {u} {t} {x} good z v l ne =
-      let e = rests-sent K net good z v l in
+  sends-low : {s s′ : State} {u t x : ℕ} → Standing K net s → Sends K net s u t x s′ → (v : ℕ) → v < net .places → u ≢ v → rest s v ≤ℤ rest s′ v
+  sends-low {s} {s′} {u} {t} {x} stands z v l ne =
+      let e = rests-sent K net stands z v l in
       let b = spot-low x t v in
       let c : spot x u v ≡ pos 0 = away x u v ne in
       omega (arith, ints)
 
-  top : {h : List Event} {n : ℕ} {s s′ : State} → Good K net h s → Repeats K net n s s′ → (v : ℕ) (z : ℤ) → v < net .places → pos 0 ≤ℤ z → rest s v ≤ℤ z → rest s′ v ≤ℤ z
-  top good (none s) v z l low under = under
-  top good (more n u t x s s′ s″ first others) v z l low under =
-      top (sends-good K net good first) others v z l low (sends-top good first v z l low under)
+  top : {n : ℕ} {s s′ : State} → Standing K net s → Repeats K net n s s′ → (v : ℕ) (z : ℤ) → v < net .places → pos 0 ≤ℤ z → rest s v ≤ℤ z → rest s′ v ≤ℤ z
+  top stands (none s) v z l low under = under
+  top stands (more n u t x s s′ s″ first others) v z l low under =
+      top (sends-stands K net stands first) others v z l low (sends-top stands first v z l low under)
 
   -- while a place has to send, no place above it sends
-  above : {h : List Event} {n : ℕ} {s s′ : State} (p : ℕ) → Good K net h s → Repeats K net n s s′ → p < net .places → pos 0 <ℤ rest s′ p → (v : ℕ) → v < net .places → p < v → rest s v ≤ℤ rest s′ v
-  above p good (none s) b up v l higher = omega (arith, ints)
-  above p good (more n u t x s s′ s″ first others) b up v l higher =
-      let after = sends-good K net good first in
+  above : {n : ℕ} {s s′ : State} (p : ℕ) → Standing K net s → Repeats K net n s s′ → p < net .places → pos 0 <ℤ rest s′ p → (v : ℕ) → v < net .places → p < v → rest s v ≤ℤ rest s′ v
+  above p stands (none s) b up v l higher = omega (arith, ints)
+  above p stands (more n u t x s s′ s″ first others) b up v l higher =
+      let after = sends-stands K net stands first in
       let next : rest s′ v ≤ℤ rest s″ v = above p after others b up v l higher in
-      let now : rest s v ≤ℤ rest s′ v = sends-low good first v l (λ i. not-lowest s s″ p u (λ low. top good (more n u t x s s′ s″ first others) p (pos 0) b (omega (arith, ints)) low) (first .source) (omega arith) up) in
+      let now : rest s v ≤ℤ rest s′ v = sends-low stands first v l (λ i. not-lowest s s″ p u (λ low. top stands (more n u t x s s′ s″ first others) p (pos 0) b (omega (arith, ints)) low) (first .source) (omega arith) up) in
       omega (arith, ints)
     where
       not-lowest : (s s″ : State) (p u : ℕ) → (rest s p ≤ℤ pos 0 → rest s″ p ≤ℤ pos 0) → Source K net s u → p < u → pos 0 <ℤ rest s″ p → ⊥
@@ -192,7 +192,7 @@ module _ {C R : Type 0} (K : Kind C R) (net : Net C) where
   lower-block {h} {n₁} {n₂} {s} {s₁} {s₂} u₁ u₂ good r₁ r₂ k₁ k₂ l =
       let g₁ = repeats-good K net good r₁ in
       let g₂ = repeats-good K net good r₂ in
-      let near = reached K net g₁ u₁ (k₁ .source .place) in
+      let near = reached K net (g₁ .stands) u₁ (k₁ .source .place) in
       let fair : (v : ℕ) → v < net .places → in-reach (seen K net) (s₁ .loads) u₁ (near v) ≡ true → pos 0 ≤ℤ rest s₁ v =
       λ v b e. by-ltZ (rest s₁ v) (pos 0)
       (λ below. let r = reach-route (seen K net) (s₁ .loads) u₁ (near v) e in
@@ -202,18 +202,18 @@ module _ {C R : Type 0} (K : Kind C R) (net : Net C) where
       let own : rest s₂ u₁ ≤ℤ pos 0 = k₂ .source .lowest u₁ l in
       short (K .group) (seen K net) (s₁ .loads) (s₂ .loads) (λ v. in-reach (seen K net) (s₁ .loads) u₁ (near v))
       (leaving (seen K net) (s₂ .loads)) (λ v. rest s₁ v -ℤ rest s₂ v) u₁
-      (g₁ .joined) (g₁ .keeps) (reach-closed (seen K net) (s₁ .loads) u₁ near)
-      (λ v b. balance (leaving (seen K net) (s₁ .loads) v) (leaving (seen K net) (s₂ .loads) v) (rest s₁ v) (rest s₂ v) (ap (λ z. z +ℤ rest s₁ v) (sym (leaving-seen K net (s₁ .loads) v (g₁ .keeps))) ∙ g₁ .accounted v b ∙ sym (g₂ .accounted v b) ∙ ap (λ z. z +ℤ rest s₂ v) (leaving-seen K net (s₂ .loads) v (g₂ .keeps))))
+      (joined K net (g₁ .stands)) (reach-closed (seen K net) (s₁ .loads) u₁ near)
+      (λ v b. balance (leaving (seen K net) (s₁ .loads) v) (leaving (seen K net) (s₂ .loads) v) (rest s₁ v) (rest s₂ v) (ap (λ z. z +ℤ rest s₁ v) (sym (leaving-seen K net (s₁ .loads) v (keeps K net (g₁ .stands)))) ∙ g₁ .accounted v b ∙ sym (g₂ .accounted v b) ∙ ap (λ z. z +ℤ rest s₂ v) (leaving-seen K net (s₂ .loads) v (keeps K net (g₂ .stands)))))
       (λ v b e. let f = fair v b e in
       ⊎-elim
       (λ i. let a : rest s₂ v ≤ℤ pos 0 = subst (λ p. rest s₂ p ≤ℤ pos 0) i own in omega (arith, ints))
       (λ o. ⊎-elim
-      (λ i. let a : rest s v ≤ℤ rest s₁ v = above u₁ good r₁ (k₁ .source .place) up v b i in
-      let c : rest s₂ v ≤ℤ rest s₁ v = top good r₂ v (rest s₁ v) b f a in
+      (λ i. let a : rest s v ≤ℤ rest s₁ v = above u₁ (good .stands) r₁ (k₁ .source .place) up v b i in
+      let c : rest s₂ v ≤ℤ rest s₁ v = top (good .stands) r₂ v (rest s₁ v) b f a in
       omega (arith, ints))
       (λ i. let a : rest s₂ v ≤ℤ pos 0 = k₂ .source .lowest v (omega arith) in omega (arith, ints)) o)
       (cases-order u₁ v))
-      (k₁ .source .place) (reach-start (seen K net) (s₁ .loads) u₁ near) (omega (arith, ints)) (g₂ .keeps) (λ v b. refl)
+      (k₁ .source .place) (reach-start (seen K net) (s₁ .loads) u₁ near) (omega (arith, ints)) (keeps K net (g₂ .stands)) (λ v b. refl)
     where
       balance : (a b p q : ℤ) → a +ℤ p ≡ b +ℤ q → b ≡ a +ℤ (p -ℤ q)
       balance a b p q e = omega (arith, ints)
@@ -231,7 +231,7 @@ module _ {C R : Type 0} (K : Kind C R) (net : Net C) where
   determined = record {
     answers = λ h s work t c. answers K net work t c;
     agrees = λ s s₁ s₂ work c a b p q. agrees p q;
-    priced = λ h s t e v l. priced (is-good K net t e) v l;
+    priced = λ h s t e v l. priced (is-good K net t e .stands) v l;
     falls = λ h s s′ work u t x r rule. falls r rule;
     ends = ends;
     one-block = λ h s s₁ s₂ w₁ w₂ b₁ b₂ n₁ n₂ u₁ u₂ t p q. one-block t p q;
