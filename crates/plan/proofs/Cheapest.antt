@@ -24,7 +24,8 @@ module _ {g : Group} (net : Net g) (f : List ℕ) (joined : Joined net) (sound :
       fits : (rs : List Step) (row : Row net f u rs v) → Short-row net f (net .places) u v (shorter rs row .steps)
       fits rs row =
           let s = shorter rs row in
-          (simple-short net joined f u (s .steps) b (s .opens) (s .apart), record { leads = s .leads; opens = s .opens })
+          let l = simple-short net joined f u (s .steps) b (s .opens) (s .apart) in
+          (omega arith, record { leads = s .leads; opens = s .opens })
 
       by : Least net (Short-row net f (net .places) u v) → Least net (λ ss. Row net f u ss v)
       by (inl a) = inl (λ ss row. a (shorter ss row .steps) (fits ss row))

@@ -6,6 +6,7 @@ pub mod Cut
 pub mod Send
 pub mod Rings
 pub mod Shorter
+pub mod Walks
 pub mod Least
 pub mod Cheapest
 pub mod Algebra

@@ -154,7 +154,7 @@ module _ {g : Group} (net : Net g) where
   inside joined f (Back k) c = joined .tails k (c .real)
 
   -- a route has fewer steps than there are places
-  pub simple-short : Joined net → (f : List ℕ) (u : ℕ) (ss : List Step) → u < net .places → All (Carries net f 1) ss → Apart (stops net u ss) → length ss ≤ net .places
+  pub simple-short : Joined net → (f : List ℕ) (u : ℕ) (ss : List Step) → u < net .places → All (Carries net f 1) ss → Apart (stops net u ss) → length ss < net .places
   simple-short joined f u ss b opens apart =
       let all : All (λ x. x < net .places) (stops net u ss) = (b, all-map _ (to net) ss (all-weaker _ _ (inside joined f) ss opens)) in
       let most = apart-few (net .places) (stops net u ss) apart all in
