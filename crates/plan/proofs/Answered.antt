@@ -1,12 +1,11 @@
 -- Every call on every plan that a run leads to has an answer.
-use mathlib.Core.Path.{_≡_, refl, sym, ap, ap₂, subst, subst₂, _∙_}
-use mathlib.Core.Logic.{_≢_, _⊎_, inl, inr, ⊎-elim}
-use mathlib.Core.Bool.{Bool, true, false, cond}
-use mathlib.Core.List.{List, [], _∷_, map}
-use Prim.Native.Nat.{ℕ, zero, suc, _+_, _-_, _≤_, _<_, min}
+use mathlib.Core.Path.{_≡_, refl, sym, ap, subst}
+use mathlib.Core.Logic.{_⊎_, inl, inr, ⊎-elim}
+use mathlib.Core.List.{List, [], _∷_}
+use Prim.Native.Nat.{ℕ, zero, suc, _≤_, _<_, min}
 use native.Mathlib.Omega.{arith}
-use lib.ListN.{length, getD, replicate}
-use lib.IntN.{ℤ, pos, _+ℤ_, _-ℤ_}
+use lib.ListN.{length, replicate}
+use lib.IntN.{pos, _-ℤ_}
 use lib.Signed.{_≤ℤ_, _<ℤ_}
 use Rattle.std.specs.shelf.Lists.{All}
 use Rattle.std.specs.declared.option.Option.{Option}
@@ -15,10 +14,9 @@ use Rattle.std.proofs.shelf.Signed.{ints, by-ltZ}
 use Rattle.std.proofs.shelf.Tests.{cases-eq}
 use Rattle.costs.specs.Group.{Group}
 use Rattle.costs.specs.Kind.{Kind}
-use Rattle.networks.specs.Net.{Way, Net}
+use Rattle.networks.specs.Net.{Net}
 use Rattle.plan.specs.declared.step.Step.{Step}
-use Rattle.plan.specs.Steps.{Route, Reach, Least, Losing}
-use Rattle.networks.specs.declared.refusal.Refusal.{Refusal}
+use Rattle.plan.specs.Steps.{Route, Reach, Least}
 use Rattle.networks.specs.declared.refusal.Refusal.the-variants.{LosingRing}
 use Rattle.plan.specs.declared.calls.Answer.{Answer}
 use Rattle.plan.specs.declared.calls.Answer.the-variants.{Opened, Booked, Settled, Blocked, Sent, Ran, Refused}
@@ -28,11 +26,11 @@ use Rattle.plan.specs.declared.calls.Ending.{Ending}
 use Rattle.plan.specs.declared.calls.Ending.the-variants as ending
 use Rattle.plan.specs.State.{State, rest, Event}
 use Rattle.plan.specs.Checks.{open-fault, book-fault, route-fault, settle-fault}
-use Rattle.plan.specs.Rules.{along, move, At-rest, Source, Target, Sends, Stuck, Repeats, none, more, Ends, Rule, open-refused, open-losing, open-accepted, book-refused, book-accepted, route-refused, route-settled, route-blocked, route-sent, settle-refused, settle-ran}
+use Rattle.plan.specs.Rules.{At-rest, Source, Sends, Stuck, Repeats, none, more, Ends, Rule, open-refused, open-losing, open-accepted, book-refused, book-accepted, route-refused, route-settled, route-blocked, route-sent, settle-refused, settle-ran}
 use Rattle.plan.specs.Law.{Trace, positive}
 use Rattle.plan.specs.Standing.{Standing}
 use Rattle.plan.proofs.Flow as flow
-use Rattle.plan.proofs.Flow.{total, Carries, Net as FNet, Row, room, price-of}
+use Rattle.plan.proofs.Flow.{Carries, Net as FNet, Row, room, price-of}
 use Rattle.plan.proofs.Sums.{total-none}
 use Rattle.plan.proofs.Costs.{nats, at-least-or}
 use Rattle.plan.proofs.Bridge.{seen, joined-seen, routed, route, losing-cheap, cheap-losing}

@@ -1,18 +1,19 @@
 -- A potential for which a cheapest route is tight; and what a place that is cut off says.
-use mathlib.Core.Path.{_≡_, refl, sym, ap, ap₂, subst, subst₂, _∙_}
-use mathlib.Core.Logic.{_≢_, _⊎_, inl, inr, ⊎-elim}
-use mathlib.Core.Bool.{Bool, true, false, cond}
-use mathlib.Core.List.{List, [], _∷_, _++_}
-use Prim.Native.Nat.{ℕ, zero, suc, _≤_, _<_}
+use mathlib.Core.Path.{_≡_, refl, sym, subst}
+use mathlib.Core.Logic.{_⊎_, inl, inr, ⊎-elim}
+use mathlib.Core.Bool.{Bool, true, false}
+use mathlib.Core.List.{List, [], _∷_}
+use Prim.Native.Nat.{ℕ, zero, suc, _<_}
 use native.Mathlib.Omega.{arith}
 use Rattle.std.specs.shelf.Lists.{All}
-use Rattle.std.proofs.shelf.Tests.{cases-eq, true≢false, false≢true}
+use Rattle.std.proofs.shelf.Tests.{cases-eq, false≢true}
 use Rattle.costs.specs.Group.{Group}
-use Rattle.plan.proofs.Flow.{unit-of, Net, Joined, Carries, Potential, Closed, Step, Ahead, Back, from, to, price, price-of, Leads, Row, Route, No-cheap, Tight}
+use Rattle.plan.proofs.Flow.{Net, Joined, Carries, Potential, Closed, Step, from, to, price, price-of, Row, Route, Tight}
 use Rattle.plan.proofs.Costs.{both}
-use Rattle.plan.proofs.Algebra.{Sum, var, _⊞_, neg, solve, moved}
-use Rattle.plan.proofs.Rings.{no-cheap-ring, tight-steps}
-use Rattle.plan.proofs.Cheapest.{cheapest, row-more, price-more}
+use Rattle.plan.proofs.Algebra.{var, _⊞_, neg, moved}
+use Rattle.plan.proofs.Rings.{tight-steps}
+use Rattle.plan.proofs.Shorter.{to-inside}
+use Rattle.plan.proofs.Cheapest.{row-more, price-more}
 
 -- some cost is at least each of finitely many
 pub bound : (g : Group) (n : ℕ) (t : ℕ → g .Carrier) → (m : g .Carrier) × ((k : ℕ) → k < n → g .le (t k) m)
@@ -32,14 +33,6 @@ module _ {g : Group} (net : Net g) (f : List ℕ) (u : ℕ) where
   abbrev pub in-reach : {v : ℕ} → Reached v → Bool
   in-reach (inl a) = false
   in-reach (inr a) = true
-
-  pub starts : Joined net → (s : Step) → Carries net f 1 s → from net s < net .places
-  starts joined (Ahead k) c = joined .tails k (c .real)
-  starts joined (Back k) c = joined .heads k (c .real)
-
-  ends : Joined net → (s : Step) → Carries net f 1 s → to net s < net .places
-  ends joined (Ahead k) c = joined .heads k (c .real)
-  ends joined (Back k) c = joined .tails k (c .real)
 
   here : Row net f u [] u
   here = record { leads = refl; opens = tt }
@@ -80,7 +73,7 @@ module _ {g : Group} (net : Net g) (f : List ℕ) (u : ℕ) where
         (π′ : ℕ → g .Carrier) × Potential net f π′ × All (Tight net π′) ss
     augment t ss row least =
         let π′ : ℕ → g .Carrier = λ v. raised v (reached v) in
-        let valid′ : Potential net f π′ = λ s c. holds s c (reached (from net s)) (reached (to net s)) (far .1 (to net s) (ends joined s c)) in
+        let valid′ : Potential net f π′ = λ s c. holds s c (reached (from net s)) (reached (to net s)) (far .1 (to net s) (to-inside net joined f s c)) in
         (π′, valid′, tight-steps g net f π′ u t ss valid′ (row .leads) (row .opens) (least-rise t ss row least (reached u) (reached t)))
 
   module _ (reached : (v : ℕ) → Reached v) where

@@ -1,28 +1,27 @@
 -- The statement's words, and the words of the proofs.
 use mathlib.Core.Path.{_≡_, refl, sym, ap, ap₂, subst, subst₂, _∙_}
-use mathlib.Core.Logic.{_≢_, _⊎_, inl, inr, ⊎-elim}
-use mathlib.Core.Bool.{Bool, true, false, cond}
+use mathlib.Core.Logic.{_≢_}
+use mathlib.Core.Bool.{cond}
 use mathlib.Core.List.{List, [], _∷_, map}
 use Prim.Native.Nat.{ℕ, zero, suc, _+_, _-_, _≤_, _<_}
 use native.Mathlib.Omega.{arith}
 use lib.ListN.{length, getD, set}
 use lib.Dec.{eqb}
-use lib.IntN.{ℤ, pos, _-ℤ_}
+use lib.IntN.{pos, _-ℤ_}
 use Rattle.std.specs.Finite.{nth}
 use Rattle.std.specs.shelf.Lists.{All}
-use Rattle.std.specs.declared.option.Option.the-variants.{Some, None}
-use Rattle.costs.specs.Group.{Group}
+use Rattle.std.specs.declared.option.Option.the-variants.{Some}
 use Rattle.costs.specs.Kind.{Kind}
 use Rattle.networks.specs.Net.{Way, Net}
 use Rattle.plan.specs.Loads.{Within, costs, out, into, leaving, Keeps}
 use Rattle.plan.specs.declared.step.Step.{Step}
 use Rattle.plan.specs.declared.step.Step.the-variants.{Ahead, Back}
-use Rattle.plan.specs.Steps.{Apart, Gives, forth, behind, Leads, there, then, Route, Ring, Losing}
+use Rattle.plan.specs.Steps.{Apart, Gives, forth, behind, Leads, there, then, Route, Losing}
 use Rattle.plan.specs.Rules.{along}
 use Rattle.plan.specs.Standing.{Inside, Potential}
 use Rattle.plan.proofs.Flow as flow
-use Rattle.plan.proofs.Flow.{total, times, unit-of, Carries, which, from, to, price, price-of, room, way, count, stops, send, Row, Cheap-ring}
-use Rattle.plan.proofs.Sums.{Adds, total-same, total-none}
+use Rattle.plan.proofs.Flow.{total, times, Carries, which, from, to, price, price-of, room, way, count, send, Row, Cheap-ring}
+use Rattle.plan.proofs.Sums.{Adds}
 use Rattle.plan.proofs.Costs.{adds, nats}
 
 -- the first term may be added first

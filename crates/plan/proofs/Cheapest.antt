@@ -1,18 +1,14 @@
 -- Where no ring costs less than zero, cheapest routes and a potential.
-use mathlib.Core.Path.{_≡_, refl, sym, ap, ap₂, subst, subst₂, _∙_}
-use mathlib.Core.Logic.{_≢_, _⊎_, inl, inr, ⊎-elim}
+use mathlib.Core.Path.{_≡_, refl, ap, subst, _∙_}
+use mathlib.Core.Logic.{_⊎_, inl, inr, ⊎-elim}
 use mathlib.Core.List.{List, [], _∷_, _++_}
-use Prim.Native.Nat.{ℕ, zero, suc, _+_, _≤_, _<_}
+use Prim.Native.Nat.{ℕ, zero, _<_}
 use native.Mathlib.Omega.{arith}
-use lib.ListN.{length}
-use Rattle.std.specs.shelf.Lists.{All}
 use Rattle.std.proofs.shelf.Elements.{all-append}
-use Rattle.std.proofs.shelf.Tests.{cases-lt}
 use Rattle.costs.specs.Group.{Group}
-use Rattle.plan.proofs.Flow.{unit-of}
-use Rattle.plan.proofs.Flow.{Net, Joined, Carries, Potential, Step, Ahead, Back, from, to, price, price-of, Leads, Row, Route, No-cheap}
-use Rattle.plan.proofs.Shorter.{price-append, leads-append, Simple, simple, simple-short}
-use Rattle.plan.proofs.Least.{Least, least-same, least-below, Short-row, best}
+use Rattle.plan.proofs.Flow.{unit-of, Net, Joined, Carries, Potential, Step, from, to, price, price-of, Row, Route, No-cheap}
+use Rattle.plan.proofs.Shorter.{price-append, leads-append, Simple, simple, simple-short, from-inside}
+use Rattle.plan.proofs.Least.{Least, least-below, Short-row, best}
 
 module _ {g : Group} (net : Net g) (f : List ℕ) (joined : Joined net) (sound : No-cheap net f) where
   pub least-row : (u v : ℕ) → u < net .places → Least net (λ ss. Row net f u ss v)
@@ -82,10 +78,6 @@ has-potential g net f joined sound = (
     at : (v : ℕ) → Least net (Any v) → g .Carrier
     at v a = ⊎-elim (λ none. g .zero) (λ b. price-of net (b .0)) a
 
-    starts : (s : Step) → Carries net f 1 s → from net s < net .places
-    starts (Ahead k) c = joined .tails k (c .real)
-    starts (Back k) c = joined .heads k (c .real)
-
     here : (v : ℕ) → v < net .places → Any v []
     here v l = (v, l, record { leads = refl; opens = tt })
 
@@ -93,7 +85,7 @@ has-potential g net f joined sound = (
     more s c ss r = (r .0, r .1, row-more net f (r .0) s ss c (r .2))
 
     holds : (s : Step) → Carries net f 1 s → (a : Least net (Any (from net s))) (b : Least net (Any (to net s))) → g .le (at (to net s) b) (g .plus (at (from net s) a) (price net s))
-    holds s c (inl a) b = absurd (a [] (here (from net s) (starts s c)))
+    holds s c (inl a) b = absurd (a [] (here (from net s) (from-inside net joined f s c)))
     holds s c (inr a) (inl b) = absurd (b _ (more s c (a .0) (a .1)))
     holds s c (inr a) (inr b) = subst (g .le _) (price-more net s (a .0)) (b .2 _ (more s c (a .0) (a .1)))
 

@@ -1,15 +1,15 @@
 -- Multiples, order and sums of costs.
-use mathlib.Core.Path.{_≡_, refl, sym, ap, ap₂, subst, subst₂, _∙_}
+use mathlib.Core.Path.{_≡_, refl, sym, ap, subst, subst₂, _∙_}
 use mathlib.Core.Logic.{_≢_, _⊎_, inl, inr, ⊎-elim}
 use mathlib.Core.Bool.{Bool, true, false, cond}
-use Prim.Native.Nat.{ℕ, zero, suc, _+_, _-_, _≤_, _<_}
+use Prim.Native.Nat.{ℕ, zero, suc, _+_, _-_, _<_}
 use native.Mathlib.Omega.{arith}
 use native.Mathlib.Nat.{add-zero, add-suc}
 use lib.Dec.{eqb}
-use Rattle.std.proofs.shelf.Tests.{true≢false, false≢true, cases-eq, cases-lt, eq-eqb, ne-eqb, cond-true, cond-false}
+use Rattle.std.proofs.shelf.Tests.{true≢false, false≢true, cases-lt, eq-eqb, ne-eqb, cond-true, cond-false}
 use Rattle.costs.specs.Group.{Group}
 use Rattle.plan.proofs.Flow.{total, times, unit-of}
-use Rattle.plan.proofs.Sums.{Adds, left-comm, unit-left, cross, total-same, total-none, total-add, total-swap, total-pick}
+use Rattle.plan.proofs.Sums.{Adds, cross, total-same, total-add, total-swap, total-pick}
 
 pub nats : Adds 0 _+_
 nats = record { assoc = λ x y z. omega arith; comm = λ x y. omega arith; unit = λ x. omega arith }

@@ -3,7 +3,7 @@ use mathlib.Core.Path.{_≡_, refl, sym, ap, ap₂, subst, subst₂, _∙_}
 use mathlib.Core.Logic.{⊎-elim}
 use mathlib.Core.Bool.{Bool, true, false, cond}
 use mathlib.Core.List.{List}
-use Prim.Native.Nat.{ℕ, zero, suc, _+_, _-_, _≤_, _<_}
+use Prim.Native.Nat.{ℕ, zero, suc, _≤_, _<_}
 use native.Mathlib.Omega.{arith}
 use lib.ListN.{getD}
 use lib.IntN.{ℤ, pos, _+ℤ_, _-ℤ_}
@@ -11,11 +11,10 @@ use lib.Signed.{_≤ℤ_, _<ℤ_}
 use Rattle.std.proofs.shelf.Signed.{ints}
 use Rattle.std.proofs.shelf.Tests.{cases-eq}
 use Rattle.costs.specs.Group.{Group}
-use Rattle.plan.proofs.Flow.{total, times, unit-of}
+use Rattle.plan.proofs.Flow.{total, times, Net, Joined, Keeps, Closed, Ahead, Back, way, count, leaving, out, into, over}
 use Rattle.costs.specs.Whole.{whole-group}
-use Rattle.plan.proofs.Flow.{Net, Joined, Keeps, Carries, Closed, Step, Ahead, Back, way, count, leaving, out, into, over}
-use Rattle.plan.proofs.Sums.{total-same, total-add, total-none}
-use Rattle.plan.proofs.Costs.{adds, total-le, weigh-all, by-places}
+use Rattle.plan.proofs.Sums.{total-same, total-add}
+use Rattle.plan.proofs.Costs.{adds, weigh-all, by-places}
 
 -- 1 in the set, and 0 outside
 abbrev mark : Bool → ℤ

@@ -1,5 +1,5 @@
 -- Whether some ring costs less than zero is decided.
-use mathlib.Core.Path.{_≡_, refl, sym, ap, ap₂, subst, subst₂, _∙_}
+use mathlib.Core.Path.{_≡_, refl, sym, subst}
 use mathlib.Core.Logic.{_≢_, _⊎_, inl, inr, ⊎-elim}
 use mathlib.Core.List.{List, [], _∷_, map}
 use Prim.Native.Nat.{ℕ, zero, suc, _≤_, _<_}
@@ -9,11 +9,10 @@ use Rattle.std.specs.shelf.Lists.{All}
 use Rattle.std.proofs.shelf.Elements.{all-map, all-weaker}
 use Rattle.std.proofs.shelf.Tests.{cases-eq}
 use Rattle.costs.specs.Group.{Group}
-use Rattle.plan.proofs.Flow.{Net, Joined, Carries, Step, Apart, from, to, price-of, Leads, Row, stops, No-cheap, Cheap-ring}
+use Rattle.plan.proofs.Flow.{Net, Joined, Step, Apart, to, price-of, Leads, Row, stops, No-cheap, Cheap-ring}
 use Rattle.plan.proofs.Costs.{at-least-or}
-use Rattle.plan.proofs.Shorter.{Simple, simple-or, apart-few, inside}
+use Rattle.plan.proofs.Shorter.{Simple, simple-or, apart-few, from-inside, to-inside}
 use Rattle.plan.proofs.Least.{Least, Short-row, best}
-use Rattle.plan.proofs.Augment.{starts}
 
 -- some number below n has P, or each has Q
 pub search-below : (n : ℕ) (P Q : ℕ → Type 0) → ((k : ℕ) → k < n → P k ⊎ Q k) → ((k : ℕ) × (k < n) × P k) ⊎ ((k : ℕ) → k < n → Q k)
@@ -75,7 +74,7 @@ module _ {g : Group} (net : Net g) (f : List ℕ) where
     short-ring : (c : Cheap-ring net f) → length (c .first ∷ c .rest) ≤ net .places
     short-ring c =
         let ss = c .first ∷ c .rest in
-        let all : All (λ x. x < net .places) (map (to net) ss) = all-map _ (to net) ss (all-weaker _ _ (inside net joined f) ss (c .row .opens)) in
+        let all : All (λ x. x < net .places) (map (to net) ss) = all-map _ (to net) ss (all-weaker _ _ (to-inside net joined f) ss (c .row .opens)) in
         let most = apart-few (net .places) (map (to net) ss) (c .apart) all in
         let same = length-map ss (to net) in
         omega arith
@@ -86,5 +85,5 @@ module _ {g : Group} (net : Net g) (f : List ℕ) where
       where
         none : ((k : ℕ) → k < net .places → Fair k) → No-cheap net f
         none fair c =
-            let b : c .place < net .places = subst (λ p. p < net .places) (c .row .leads .0) (starts net f (c .place) joined (c .first) (c .row .opens .0)) in
+            let b : c .place < net .places = subst (λ p. p < net .places) (c .row .leads .0) (from-inside net joined f (c .first) (c .row .opens .0)) in
             c .other (g .antisym _ _ (c .below) (fair (c .place) b (c .first ∷ c .rest) (short-ring c, c .row)))

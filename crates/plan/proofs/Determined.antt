@@ -1,26 +1,24 @@
 -- The rules can be kept, and determine the answer up to the route.
-use mathlib.Core.Path.{_≡_, refl, sym, ap, ap₂, subst, subst₂, _∙_}
-use mathlib.Core.Logic.{_≢_, _⊎_, inl, inr, ⊎-elim}
-use mathlib.Core.Bool.{Bool, true, false, cond}
-use mathlib.Core.List.{List, [], _∷_, map}
-use Prim.Native.Nat.{ℕ, zero, suc, _+_, _-_, _≤_, _<_}
+use mathlib.Core.Path.{_≡_, refl, sym, ap, ap₂, subst, _∙_}
+use mathlib.Core.Logic.{_≢_, ⊎-elim}
+use mathlib.Core.Bool.{true}
+use mathlib.Core.List.{List, [], map}
+use Prim.Native.Nat.{ℕ, _+_, _≤_, _<_}
 use native.Mathlib.Omega.{arith}
 use lib.IntN.{ℤ, pos, _+ℤ_, _-ℤ_}
 use lib.Signed.{_≤ℤ_, _<ℤ_}
 use Rattle.std.specs.declared.option.Option.{Option}
 use Rattle.std.specs.declared.option.Option.the-variants.{Some, None}
 use Rattle.std.proofs.shelf.Signed.{ints, by-ltZ}
-use Rattle.std.proofs.shelf.Tests.{cases-eq, cases-order}
-use Rattle.costs.specs.Group.{Group}
+use Rattle.std.proofs.shelf.Tests.{cases-order}
 use Rattle.costs.specs.Kind.{Kind}
-use Rattle.networks.specs.Net.{Way, Net}
-use Rattle.plan.specs.declared.step.Step.{Step}
-use Rattle.plan.specs.Steps.{Route, Reach, Least, Price}
+use Rattle.networks.specs.Net.{Net}
+use Rattle.plan.specs.Steps.{Leads, Reach, Least, Price}
 use Rattle.networks.specs.declared.refusal.Refusal.{Refusal}
 use Rattle.plan.specs.declared.calls.Answer.{Answer}
-use Rattle.plan.specs.declared.calls.Answer.the-variants.{Opened, Booked, Settled, Blocked, Sent, Ran, Refused}
+use Rattle.plan.specs.declared.calls.Answer.the-variants.{Settled, Blocked, Sent, Ran, Refused}
 use Rattle.plan.specs.declared.calls.Call.{Call}
-use Rattle.plan.specs.declared.calls.Call.the-variants.{Open, Book, Route as Route-call, Settle}
+use Rattle.plan.specs.declared.calls.Call.the-variants.{Route as Route-call, Settle}
 use Rattle.plan.specs.declared.calls.Ending.{Ending}
 use Rattle.plan.specs.declared.calls.Ending.the-variants as ending
 use Rattle.plan.specs.State.{State, rest, Event}
@@ -28,16 +26,16 @@ use Rattle.plan.specs.Rules.{At-rest, Source, Target, Sends, Stuck, Repeats, n
 use Rattle.plan.specs.Law.{Trace, owed}
 use Rattle.plan.specs.Standing.{Standing}
 use Rattle.plan.specs.Determined.{Determined, shape}
-use Rattle.plan.proofs.Flow.{Row, Potential, No-cheap, price-of, leaving}
-use Rattle.plan.proofs.Bridge.{seen, routed, route, leaving-seen}
+use Rattle.plan.proofs.Flow.{to, price-of, leaving}
+use Rattle.plan.proofs.Bridge.{seen, seen-potential, leads, route, leaving-seen}
 use Rattle.plan.proofs.Cut.{short}
 use Rattle.plan.proofs.Send.{spot}
-use Rattle.plan.proofs.Moves.{here, away, spot-low}
+use Rattle.plan.proofs.Moves.{away, spot-low}
 use Rattle.plan.proofs.Augment.{in-reach, reach-closed, reach-start, reach-route}
-use Rattle.plan.proofs.Shorter.{simple}
+use Rattle.plan.proofs.Walks.{price-by}
 use Rattle.plan.proofs.Cheapest.{has-potential}
 use Rattle.plan.proofs.Faults.{some-none, open-none}
-use Rattle.plan.proofs.Standing.{joined, keeps, no-cheap, reached, some, apart, rests-sent, sends-stands, sends-owed, Good, repeats-good}
+use Rattle.plan.proofs.Standing.{joined, keeps, no-cheap, reached, some, nearer, rests-sent, sends-stands, sends-owed, Good, repeats-good}
 use Rattle.plan.proofs.Stands.{is-good}
 use Rattle.plan.proofs.Answered.{answers}
 
@@ -111,18 +109,14 @@ module _ {C R : Type 0} (K : Kind C R) (net : Net C) where
 
   priced : {s : State} → Standing K net s → (v : ℕ) → v < net .places → (c : K .group .Carrier) × Price K net (s .loads) v c
   priced {s} stands v l =
-      let g = K .group in
-      let quiet = no-cheap K net stands in
-      let p = has-potential g (seen K net) (s .loads) (joined K net stands) quiet in
-      let r = p .2 v l in
-      let m = simple (seen K net) (s .loads) quiet (r .0) v (r .1) (r .3 .leads) (r .3 .opens) in
-      let e : price-of (seen K net) (m .steps) ≡ p .0 v =
-      g .antisym _ _ (subst (g .le (price-of (seen K net) (m .steps))) (sym (r .4)) (m .cheaper)) (p .3 (r .0) v (m .steps) (r .2) (record { leads = m .leads; opens = m .opens })) in (
+      let p = has-potential (K .group) (seen K net) (s .loads) (joined K net stands) (no-cheap K net stands) in (
         p .0 v,
-        record {
-          taken = (r .0, m .steps, r .2, subst (Route K net (s .loads) 1 (r .0) (m .steps) v) e (route K net (s .loads) 1 (r .0) (m .steps) v (omega arith) (record { leads = m .leads; apart = m .apart; carries = m .opens })));
-          least = λ u ss d b q. let o = routed K net (s .loads) q in subst (g .le (p .0 v)) (sym (o .1)) (p .3 u v ss b (o .2));
-        },
+        price-by K net (s .loads) (record {
+          start = λ u b. p .3 u u [] b (record { leads = refl; opens = tt });
+          closed = seen-potential K net (s .loads) (p .0) (p .1);
+          walked = λ u b. let r = p .2 u b in
+              (r .0, r .1, map (to (seen K net)) (r .1), r .2, subst (Leads K net (s .loads) 1 (r .0) (r .1) _ u) (sym (r .4)) (leads K net (s .loads) 1 (r .0) (r .1) u (omega arith) (r .3 .leads) (r .3 .opens)));
+        }) v l,
       )
 
   falls : {h : List Event} {s s′ : State} {work u t x : ℕ} → Trace K net h s → Rule K net work s Route-call (Sent u t x) s′ → (1 ≤ x) × (owed s′ (net .places) + x ≡ owed s (net .places))
@@ -148,21 +142,6 @@ module _ {C R : Type 0} (K : Kind C R) (net : Net C) where
   unaltered (route-refused s r e) = refl
   unaltered (settle-refused s budget r e) = refl
 
-  -- no rest rises above a bound that is not below zero
-  sends-top : {s s′ : State} {u t x : ℕ} → Standing K net s → Sends K net s u t x s′ → (v : ℕ) (z : ℤ) → v < net .places → pos 0 ≤ℤ z → rest s v ≤ℤ z → rest s′ v ≤ℤ z
-  sends-top {s} {s′} {u} {t} {x} stands z v top l low under =
-      let e = rests-sent K net stands z v l in
-      let w = z .wanted in
-      ⊎-elim
-      (λ i. let a : rest s t ≡ rest s v = ap (rest s) i in
-      let b : spot x t v ≡ pos x = subst (λ p. spot x t p ≡ pos x) i (here x t) in
-      let c : spot x u v ≡ pos 0 = away x u v (λ j. apart K net stands z (j ∙ sym i)) in
-      omega (arith, ints))
-      (λ ni. let b : spot x t v ≡ pos 0 = away x t v ni in
-      let c = spot-low x u v in
-      omega (arith, ints))
-      (cases-eq t v)
-
   -- only the lowest source has less to send
   sends-low : {s s′ : State} {u t x : ℕ} → Standing K net s → Sends K net s u t x s′ → (v : ℕ) → v < net .places → u ≢ v → rest s v ≤ℤ rest s′ v
   sends-low {s} {s′} {u} {t} {x} stands z v l ne =
@@ -171,10 +150,11 @@ module _ {C R : Type 0} (K : Kind C R) (net : Net C) where
       let c : spot x u v ≡ pos 0 = away x u v ne in
       omega (arith, ints)
 
+  -- no rest rises above a bound that is not below zero
   top : {n : ℕ} {s s′ : State} → Standing K net s → Repeats K net n s s′ → (v : ℕ) (z : ℤ) → v < net .places → pos 0 ≤ℤ z → rest s v ≤ℤ z → rest s′ v ≤ℤ z
   top stands (none s) v z l low under = under
   top stands (more n u t x s s′ s″ first others) v z l low under =
-      top (sends-stands K net stands first) others v z l low (sends-top stands first v z l low under)
+      top (sends-stands K net stands first) others v z l low (nearer K net stands first v _ z l (omega (arith, ints)) low (stands .lowest v l) under .1)
 
   -- while a place has to send, no place above it sends
   above : {n : ℕ} {s s′ : State} (p : ℕ) → Standing K net s → Repeats K net n s s′ → p < net .places → pos 0 <ℤ rest s′ p → (v : ℕ) → v < net .places → p < v → rest s v ≤ℤ rest s′ v

@@ -1,15 +1,13 @@
 -- The cheapest of the rows of steps that have a property, where there is one.
-use mathlib.Core.Path.{_≡_, refl, sym, ap, ap₂, subst, subst₂, _∙_}
-use mathlib.Core.Logic.{_≢_, _⊎_, inl, inr, ⊎-elim}
-use mathlib.Core.List.{List, [], _∷_, _++_}
-use Prim.Native.Nat.{ℕ, zero, suc, _+_, _≤_, _<_}
+use mathlib.Core.Path.{_≡_, refl, sym, subst}
+use mathlib.Core.Logic.{_⊎_, inl, inr, ⊎-elim}
+use mathlib.Core.List.{List, [], _∷_}
+use Prim.Native.Nat.{ℕ, zero, suc, _≤_, _<_}
 use native.Mathlib.Omega.{arith}
 use lib.ListN.{length}
-use Rattle.std.specs.shelf.Lists.{All}
 use Rattle.std.proofs.shelf.Tests.{cases-eq, cases-lt}
 use Rattle.costs.specs.Group.{Group}
-use Rattle.plan.proofs.Flow.{unit-of}
-use Rattle.plan.proofs.Flow.{Net, Carries, Step, Ahead, Back, which, from, to, price, price-of, room, count, Leads, Row}
+use Rattle.plan.proofs.Flow.{Net, Step, Ahead, Back, which, from, to, price-of, room, count, Row}
 use Rattle.plan.proofs.Costs.{both}
 
 module _ {g : Group} (net : Net g) where

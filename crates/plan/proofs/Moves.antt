@@ -1,16 +1,16 @@
 -- Rests: what a move changes, and what is owed.
-use mathlib.Core.Path.{_≡_, refl, sym, ap, ap₂, subst, subst₂, _∙_}
-use mathlib.Core.Logic.{_≢_, _⊎_, inl, inr, ⊎-elim}
-use mathlib.Core.Bool.{Bool, true, false, cond}
-use mathlib.Core.List.{List, [], _∷_}
-use Prim.Native.Nat.{ℕ, zero, suc, _+_, _-_, _≤_, _<_}
+use mathlib.Core.Path.{_≡_, refl, sym, ap, subst, _∙_}
+use mathlib.Core.Logic.{_≢_, ⊎-elim}
+use mathlib.Core.Bool.{cond}
+use mathlib.Core.List.{List}
+use Prim.Native.Nat.{ℕ, zero, suc, _+_, _<_}
 use native.Mathlib.Omega.{arith}
 use lib.ListN.{length, getD, set, length-set}
 use lib.Seq.{getD-set-same, getD-set-other}
 use lib.Dec.{eqb}
-use lib.IntN.{ℤ, pos, negsuc, _+ℤ_, _-ℤ_, natAbs}
-use lib.Signed.{_≤ℤ_, _<ℤ_, ltZ}
-use Rattle.std.proofs.shelf.Signed.{ints, by-ltZ}
+use lib.IntN.{ℤ, pos, negsuc, _+ℤ_, _-ℤ_}
+use lib.Signed.{_≤ℤ_}
+use Rattle.std.proofs.shelf.Signed.{ints}
 use Rattle.std.proofs.shelf.Tests.{cases-eq, eq-eqb, ne-eqb, lt-ltb}
 use Rattle.plan.specs.State.{State, rest}
 use Rattle.plan.specs.Rules.{move}
@@ -18,7 +18,7 @@ use Rattle.plan.specs.Law.{positive, owed}
 use Rattle.plan.specs.Standing.{rests-below}
 use Rattle.plan.proofs.Flow.{total}
 use Rattle.costs.specs.Whole.{whole-group}
-use Rattle.plan.proofs.Sums.{total-same, total-none, total-add, total-pick}
+use Rattle.plan.proofs.Sums.{total-same, total-add, total-pick}
 use Rattle.plan.proofs.Costs.{adds, nats}
 use Rattle.plan.proofs.Send.{spot}
 

@@ -1,16 +1,15 @@
 -- A load with a potential is the cheapest.
-use mathlib.Core.Path.{_≡_, refl, sym, ap, ap₂, subst, subst₂, _∙_}
+use mathlib.Core.Path.{_≡_, sym, ap, ap₂, subst, subst₂, _∙_}
 use mathlib.Core.List.{List}
-use Prim.Native.Nat.{ℕ, _+_, _-_, _≤_, _<_}
+use Prim.Native.Nat.{ℕ, _+_, _≤_, _<_}
 use native.Mathlib.Omega.{arith}
 use lib.ListN.{getD}
-use lib.IntN.{ℤ, pos, _-ℤ_}
+use lib.IntN.{pos, _-ℤ_}
 use Rattle.std.proofs.shelf.Signed.{ints}
 use Rattle.costs.specs.Group.{Group}
-use Rattle.plan.proofs.Flow.{total, times, unit-of}
-use Rattle.plan.proofs.Flow.{Net, Joined, Keeps, Carries, Potential, Step, Ahead, Back, way, count, cost, leaving, out, into}
+use Rattle.plan.proofs.Flow.{total, times, unit-of, Net, Joined, Keeps, Potential, Ahead, Back, way, count, cost, leaving, out, into}
 use Rattle.plan.proofs.Sums.{left-comm, total-same, total-add}
-use Rattle.plan.proofs.Costs.{adds, cancel, undo, times-add, times-plus, weigh-all, by-places}
+use Rattle.plan.proofs.Costs.{adds, cancel, times-add, times-plus, weigh-all, by-places}
 
 -- a step Back at the opposite cost, said without the opposite
 pub taken-back : (g : Group) (x y c : g .Carrier) → g .le x (g .plus y (g .opp c)) → g .le (g .plus x c) y

@@ -1,11 +1,10 @@
 -- Rings of open steps.
-use mathlib.Core.Path.{_≡_, refl, sym, ap, ap₂, subst, subst₂, _∙_}
+use mathlib.Core.Path.{sym, ap, subst, subst₂, _∙_}
 use mathlib.Core.List.{List, [], _∷_}
 use Prim.Native.Nat.{ℕ}
 use Rattle.std.specs.shelf.Lists.{All}
 use Rattle.costs.specs.Group.{Group}
-use Rattle.plan.proofs.Flow.{unit-of}
-use Rattle.plan.proofs.Flow.{Net, Carries, Potential, Step, from, to, price, Leads, Row, Tight, price-of, No-cheap}
+use Rattle.plan.proofs.Flow.{unit-of, Net, Carries, Potential, Step, to, price, Leads, Tight, price-of, No-cheap}
 use Rattle.plan.proofs.Sums.{unit-left}
 use Rattle.plan.proofs.Costs.{adds, cancel}
 

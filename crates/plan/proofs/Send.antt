@@ -1,6 +1,6 @@
 -- Sending more along a route.
-use mathlib.Core.Path.{_≡_, refl, sym, ap, ap₂, subst, subst₂, _∙_}
-use mathlib.Core.Logic.{_≢_, _⊎_, inl, inr, ⊎-elim}
+use mathlib.Core.Path.{_≡_, refl, sym, ap, ap₂, subst, _∙_}
+use mathlib.Core.Logic.{_≢_, ⊎-elim}
 use mathlib.Core.Bool.{Bool, true, false, cond}
 use mathlib.Core.List.{List, [], _∷_, map}
 use Prim.Native.Nat.{ℕ, zero, suc, _+_, _-_, _≤_, _<_}
@@ -8,13 +8,12 @@ use native.Mathlib.Omega.{arith}
 use lib.ListN.{length, getD, set, length-set}
 use lib.Seq.{getD-set-same, getD-set-other}
 use lib.Dec.{eqb}
-use lib.IntN.{ℤ, pos, negℤ, _+ℤ_, _-ℤ_}
+use lib.IntN.{ℤ, pos, _+ℤ_, _-ℤ_}
 use Rattle.std.specs.shelf.Lists.{All}
 use Rattle.std.proofs.shelf.Signed.{ints}
-use Rattle.std.proofs.shelf.Tests.{cases-eq, eq-eqb, ne-eqb}
+use Rattle.std.proofs.shelf.Tests.{cases-eq}
 use Rattle.costs.specs.Group.{Group}
-use Rattle.plan.proofs.Flow.{total, times, unit-of}
-use Rattle.plan.proofs.Flow.{Net, Keeps, Carries, Potential, Step, Ahead, Back, which, from, to, price, room, way, count, leaving, out, into, Leads, Apart, stops, Route, send, send-step, Tight}
+use Rattle.plan.proofs.Flow.{total, unit-of, Net, Keeps, Carries, Potential, Step, Ahead, Back, which, from, to, price, room, way, count, leaving, out, into, Leads, Apart, stops, send, send-step, Tight}
 use Rattle.plan.proofs.Costs.{undo}
 
 pub all-with : {X : Type 0} {P Q : X → Type 0} (R : X → Type 0) → ((x : X) → P x → Q x → R x) → (xs : List X) → All P xs → All Q xs → All R xs

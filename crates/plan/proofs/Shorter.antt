@@ -1,7 +1,7 @@
 -- A row of open steps, made into a route by leaving out its rings.
 use mathlib.Core.Path.{_≡_, refl, sym, ap, ap₂, subst, subst₂, _∙_}
 use mathlib.Core.Logic.{_≢_, _⊎_, inl, inr, ⊎-elim}
-use mathlib.Core.Bool.{Bool, true, false, cond}
+use mathlib.Core.Bool.{Bool, cond}
 use mathlib.Core.List.{List, [], _∷_, _++_, map}
 use Prim.Native.Nat.{ℕ, zero, suc, _+_, _≤_, _<_}
 use native.Mathlib.Omega.{arith}
@@ -11,8 +11,7 @@ use Rattle.std.specs.shelf.Lists.{All}
 use Rattle.std.proofs.shelf.Elements.{all-map, all-weaker}
 use Rattle.std.proofs.shelf.Tests.{cases-eq, eq-eqb, ne-eqb}
 use Rattle.costs.specs.Group.{Group}
-use Rattle.plan.proofs.Flow.{total, unit-of}
-use Rattle.plan.proofs.Flow.{Net, Joined, Carries, Step, Ahead, Back, from, to, price, price-of, Leads, Apart, stops, No-cheap, Cheap-ring}
+use Rattle.plan.proofs.Flow.{total, Net, Joined, Carries, Step, Ahead, Back, from, to, price, price-of, Leads, Apart, stops, No-cheap, Cheap-ring}
 use Rattle.plan.proofs.Sums.{unit-left, total-add, total-none, total-pick}
 use Rattle.plan.proofs.Costs.{adds, nats, both, at-least-or}
 
@@ -149,14 +148,19 @@ module _ {g : Group} (net : Net g) where
   pub simple : (f : List ℕ) → No-cheap net f → (u v : ℕ) (ss : List Step) → Leads net u ss v → All (Carries net f 1) ss → Simple f u ss v
   simple f sound u v ss leads opens = ⊎-elim (λ c. absurd (sound c)) (λ r. r) (simple-or f u v ss leads opens)
 
-  pub inside : Joined net → (f : List ℕ) (s : Step) → Carries net f 1 s → to net s < net .places
-  inside joined f (Ahead k) c = joined .heads k (c .real)
-  inside joined f (Back k) c = joined .tails k (c .real)
+  -- an open step joins two places
+  pub from-inside : Joined net → (f : List ℕ) (s : Step) → Carries net f 1 s → from net s < net .places
+  from-inside joined f (Ahead k) c = joined .tails k (c .real)
+  from-inside joined f (Back k) c = joined .heads k (c .real)
+
+  pub to-inside : Joined net → (f : List ℕ) (s : Step) → Carries net f 1 s → to net s < net .places
+  to-inside joined f (Ahead k) c = joined .heads k (c .real)
+  to-inside joined f (Back k) c = joined .tails k (c .real)
 
   -- a route has fewer steps than there are places
   pub simple-short : Joined net → (f : List ℕ) (u : ℕ) (ss : List Step) → u < net .places → All (Carries net f 1) ss → Apart (stops net u ss) → length ss < net .places
   simple-short joined f u ss b opens apart =
-      let all : All (λ x. x < net .places) (stops net u ss) = (b, all-map _ (to net) ss (all-weaker _ _ (inside joined f) ss opens)) in
+      let all : All (λ x. x < net .places) (stops net u ss) = (b, all-map _ (to net) ss (all-weaker _ _ (to-inside joined f) ss opens)) in
       let most = apart-few (net .places) (stops net u ss) apart all in
       let same = length-map ss (to net) in
       omega arith

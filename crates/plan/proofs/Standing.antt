@@ -1,12 +1,10 @@
 -- What holds of an open plan lasts while routes are sent, and what a source that is cut off says.
-use mathlib.Core.Path.{_≡_, refl, sym, ap, subst, _∙_}
+use mathlib.Core.Path.{_≡_, sym, ap, subst, _∙_}
 use mathlib.Core.Logic.{_≢_, ⊎-elim}
-use mathlib.Core.Bool.{true}
 use mathlib.Core.List.{List}
-use Prim.Native.Nat.{ℕ, suc, _+_, _≤_, _<_, min}
+use Prim.Native.Nat.{ℕ, _+_, _≤_, _<_, min}
 use native.Mathlib.Omega.{arith}
-use lib.ListN.{length, getD}
-use lib.IntN.{ℤ, pos, negℤ, _+ℤ_, _-ℤ_}
+use lib.IntN.{ℤ, pos, negℤ, _+ℤ_}
 use lib.Signed.{_≤ℤ_, _<ℤ_}
 use Rattle.std.proofs.shelf.Signed.{ints, by-ltZ}
 use Rattle.std.proofs.shelf.Tests.{cases-eq}
@@ -76,9 +74,8 @@ module _ {C R : Type 0} (K : Kind C R) (net : Net C) where
     unfolding after
     rests-after v l = move-at (s .rests) t u x v (rw (stands .whole) (sends .target .place)) (rw (stands .whole) (sends .source .place)) (λ e. apart (sym e))
 
-    -- each rest comes nearer to zero, or stays
-    nearer : (v : ℕ) (lo hi : ℤ) → v < net .places → lo ≤ℤ pos 0 → pos 0 ≤ℤ hi → lo ≤ℤ rest s v → rest s v ≤ℤ hi → (lo ≤ℤ rest after v) × (rest after v ≤ℤ hi)
-    nearer v lo hi l zl zh a b =
+    nearer-after : (v : ℕ) (lo hi : ℤ) → v < net .places → lo ≤ℤ pos 0 → pos 0 ≤ℤ hi → lo ≤ℤ rest s v → rest s v ≤ℤ hi → (lo ≤ℤ rest after v) × (rest after v ≤ℤ hi)
+    nearer-after v lo hi l zl zh a b =
         let e = rests-after v l in
         let p = sends .supplied in
         let q = sends .wanted in
@@ -114,7 +111,7 @@ module _ {C R : Type 0} (K : Kind C R) (net : Net C) where
     unfolding after
     stands-after =
         let bounds : (v : ℕ) → v < net .places → (negℤ (pos 1000000000) ≤ℤ rest after v) × (rest after v ≤ℤ pos 1000000000) =
-        λ v l. nearer v _ _ l (omega (arith, ints)) (omega (arith, ints)) (stands .lowest v l) (stands .highest v l) in
+        λ v l. nearer-after v _ _ l (omega (arith, ints)) (omega (arith, ints)) (stands .lowest v l) (stands .highest v l) in
         record {
           opened = stands .opened;
           passed = stands .passed;
@@ -133,6 +130,11 @@ module _ {C R : Type 0} (K : Kind C R) (net : Net C) where
     pub rests-sent : (v : ℕ) → v < net .places → rest s′ v +ℤ spot x u v ≡ rest s v +ℤ spot x t v
     unfolding after
     rests-sent v l = subst (λ z. rest z v +ℤ spot x u v ≡ rest s v +ℤ spot x t v) (sym (sends .after)) (rests-after v l)
+
+    -- each rest comes nearer to zero, or stays
+    pub nearer : (v : ℕ) (lo hi : ℤ) → v < net .places → lo ≤ℤ pos 0 → pos 0 ≤ℤ hi → lo ≤ℤ rest s v → rest s v ≤ℤ hi → (lo ≤ℤ rest s′ v) × (rest s′ v ≤ℤ hi)
+    unfolding after
+    nearer v lo hi l zl zh a b = subst (λ z. (lo ≤ℤ rest z v) × (rest z v ≤ℤ hi)) (sym (sends .after)) (nearer-after v lo hi l zl zh a b)
 
     pub sends-owed : owed s′ (net .places) + x ≡ owed s (net .places)
     unfolding after

@@ -2,34 +2,32 @@
 use mathlib.Core.Path.{_≡_, refl, sym, ap, ap₂, subst, subst₂, _∙_}
 use mathlib.Core.Logic.{_≢_, _⊎_, inl, inr, ⊎-elim}
 use mathlib.Core.Bool.{Bool, true, false, cond}
-use mathlib.Core.List.{List, [], _∷_, map}
-use Prim.Native.Nat.{ℕ, zero, suc, _+_, _-_, _≤_, _<_, min}
+use mathlib.Core.List.{List, _∷_, map}
+use Prim.Native.Nat.{ℕ, zero, suc, _+_, _≤_, _<_}
 use native.Mathlib.Omega.{arith}
-use lib.ListN.{length, getD, set, replicate, length-replicate, getD-replicate, length-map}
+use lib.ListN.{length, getD, replicate, length-replicate, getD-replicate, length-map}
 use lib.IntN.{ℤ, pos, negℤ, _+ℤ_, _-ℤ_}
 use lib.Signed.{_≤ℤ_}
 use Rattle.std.specs.shelf.Lists.{Has}
-use Rattle.std.specs.declared.option.Option.the-variants.{Some, None}
+use Rattle.std.specs.declared.option.Option.the-variants.{None}
 use Rattle.std.proofs.shelf.Signed.{ints}
 use Rattle.std.proofs.shelf.Tests.{both-ways, cases-eq}
-use Rattle.costs.specs.Group.{Group}
 use Rattle.costs.specs.Kind.{Kind}
-use Rattle.networks.specs.Net.{Way, Net}
-use Rattle.plan.specs.Loads.{costs, leaving, Keeps}
+use Rattle.networks.specs.Net.{Net}
+use Rattle.plan.specs.Loads.{leaving, Keeps}
 use Rattle.plan.specs.Steps.{Losing}
 use Rattle.plan.specs.declared.calls.Answer.{Answer}
-use Rattle.plan.specs.declared.calls.Answer.the-variants.{Opened, Booked, Settled, Blocked, Sent, Ran, Refused}
+use Rattle.plan.specs.declared.calls.Answer.the-variants.{Opened, Booked, Settled, Blocked, Ran}
 use Rattle.plan.specs.declared.calls.Call.{Call}
-use Rattle.plan.specs.declared.calls.Call.the-variants.{Open, Book, Route as Route-call, Settle}
+use Rattle.plan.specs.declared.calls.Call.the-variants.{Open, Book, Settle}
 use Rattle.plan.specs.declared.calls.Ending.{Ending}
 use Rattle.plan.specs.declared.calls.Ending.the-variants as ending
-use Rattle.plan.specs.State.{State, closed, rest, Event}
+use Rattle.plan.specs.State.{State, rest, Event}
 use Rattle.plan.specs.Checks.{open-fault}
 use Rattle.plan.specs.Rules.{move, At-rest, Repeats, Rule, open-refused, open-losing, open-accepted, book-refused, book-accepted, route-refused, route-settled, route-blocked, route-sent, settle-refused, settle-ran}
 use Rattle.plan.specs.Standing.{Passed, Standing}
-use Rattle.plan.specs.Law.{booked-by, bookings, owed, Trace, start, then, Meets, Possible, Sound, Blocks, Law}
+use Rattle.plan.specs.Law.{booked-by, bookings, owed, Trace, start, then, Possible, Sound, Blocks, Law}
 use Rattle.plan.proofs.Flow as flow
-use Rattle.plan.proofs.Flow.{total}
 use Rattle.costs.specs.Whole.{whole-group}
 use Rattle.plan.proofs.Sums.{total-none}
 use Rattle.plan.proofs.Costs.{adds, nats}

@@ -1,12 +1,11 @@
 -- Walks of open steps are cut down to routes; entries that no step lowers are least costs, or prices.
-use mathlib.Core.Path.{_≡_, refl, sym, ap, ap₂, subst, _∙_}
-use mathlib.Core.Logic.{_≢_, _⊎_, inl, inr, ⊎-elim}
+use mathlib.Core.Path.{_≡_, sym, subst, _∙_}
+use mathlib.Core.Logic.{_⊎_, inl, inr, ⊎-elim}
 use mathlib.Core.List.{List, [], _∷_, _++_}
-use Prim.Native.Nat.{ℕ, _+_, _≤_, _<_}
+use Prim.Native.Nat.{ℕ, _≤_, _<_}
 use native.Mathlib.Omega.{arith}
 use lib.ListN.{length}
 use Rattle.std.specs.shelf.Lists.{All}
-use Rattle.std.proofs.shelf.Elements.{all-weaker}
 use Rattle.costs.specs.Group.{Below}
 use Rattle.costs.specs.Kind.{Kind}
 use Rattle.networks.specs.Net.{Net}
@@ -17,7 +16,7 @@ use Rattle.plan.specs.Standing.{Inside, Potential, Standing}
 use Rattle.plan.proofs.Flow.{unit-of, price-of}
 use Rattle.plan.proofs.Bridge.{seen, joined-seen, potential-seen, given, led, routed, route, losing-cheap, cheap-losing}
 use Rattle.plan.proofs.Rings.{no-cheap-ring}
-use Rattle.plan.proofs.Shorter.{simple-or, simple-short, inside}
+use Rattle.plan.proofs.Shorter.{simple-or, simple-short, to-inside}
 
 module _ {C R : Type 0} (K : Kind C R) (net : Net C) (f : List ℕ) where
   -- a step says where it leads, at what cost, and how much room it has
@@ -76,7 +75,7 @@ module _ {C R : Type 0} (K : Kind C R) (net : Net C) (f : List ℕ) where
   walk-inside ends l (there u) = l
   walk-inside ends l (then u v w s ss vs c d r g e rest) =
       let i = given K net f g in
-      walk-inside ends (subst (λ p. p < net .places) (i .ends) (inside (seen K net) (joined-seen K net ends) f s (record { real = i .real; enough = rw (i .room) (i .some) }))) rest
+      walk-inside ends (subst (λ p. p < net .places) (i .ends) (to-inside (seen K net) (joined-seen K net ends) f s (record { real = i .real; enough = rw (i .room) (i .some) }))) rest
 
   -- a route has fewer steps than there are places
   pub route-short : {x u v : ℕ} {ss : List Step} {c : K .group .Carrier} → Inside net → u < net .places → Route K net f x u ss v c → length ss < net .places
