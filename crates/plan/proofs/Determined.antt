@@ -32,10 +32,11 @@ use Rattle.plan.proofs.Cut.{short}
 use Rattle.plan.proofs.Send.{spot}
 use Rattle.plan.proofs.Moves.{away, spot-low}
 use Rattle.plan.proofs.Augment.{in-reach, reach-closed, reach-start, reach-route}
-use Rattle.plan.proofs.Walks.{price-by}
+use Rattle.plan.proofs.Walks.{gives-inside, stands-sound}
+use Rattle.plan.proofs.Found.{price-by}
 use Rattle.plan.proofs.Cheapest.{has-potential}
 use Rattle.plan.proofs.Faults.{some-none, open-none}
-use Rattle.plan.proofs.Standing.{joined, keeps, no-cheap, reached, some, nearer, rests-sent, sends-stands, sends-owed, Good, repeats-good}
+use Rattle.plan.proofs.Standing.{inside, joined, keeps, no-cheap, reached, some, nearer, rests-sent, sends-stands, sends-owed, Good, repeats-good}
 use Rattle.plan.proofs.Stands.{is-good}
 use Rattle.plan.proofs.Answered.{answers}
 
@@ -109,14 +110,20 @@ module _ {C R : Type 0} (K : Kind C R) (net : Net C) where
 
   priced : {s : State} → Standing K net s → (v : ℕ) → v < net .places → (c : K .group .Carrier) × Price K net (s .loads) v c
   priced {s} stands v l =
-      let p = has-potential (K .group) (seen K net) (s .loads) (joined K net stands) (no-cheap K net stands) in (
+      let f = s .loads in
+      let p = has-potential (K .group) (seen K net) f (joined K net stands) (no-cheap K net stands) in
+      let low = seen-potential K net f (p .0) (p .1) in
+      let At : ℕ → K .group .Carrier → Type 0 = λ u x. (u < net .places) × (p .0 u ≡ x) in (
         p .0 v,
-        price-by K net (s .loads) (record {
-          start = λ u b. p .3 u u [] b (record { leads = refl; opens = tt });
-          closed = seen-potential K net (s .loads) (p .0) (p .1);
-          walked = λ u b. let r = p .2 u b in
-              (r .0, r .1, map (to (seen K net)) (r .1), r .2, subst (Leads K net (s .loads) 1 (r .0) (r .1) _ u) (sym (r .4)) (leads K net (s .loads) 1 (r .0) (r .1) u (omega arith) (r .3 .leads) (r .3 .opens)));
-        }) v l,
+        price-by K net f {At = At} (record {
+          entries = record {
+            one = λ u x y a b. sym (a .1) ∙ b .1;
+            closed = λ q u w r c x g a. (p .0 w, (gives-inside K net f (inside K net (stands .passed)) g .1, refl), subst (λ z. K .group .le (p .0 w) (K .group .plus z c)) (a .1) (low q u w c r g));
+          };
+          start = λ u b. (p .0 u, (b, refl), p .3 u u [] b (record { leads = refl; opens = tt }));
+          walked = λ u y a. let r = p .2 u (a .0) in
+              (r .0, r .1, map (to (seen K net)) (r .1), r .2, subst (Leads K net f 1 (r .0) (r .1) _ u) (sym (r .4) ∙ a .1) (leads K net f 1 (r .0) (r .1) u (omega arith) (r .3 .leads) (r .3 .opens)));
+        }) (stands-sound K net stands) v (p .0 v) (l, refl),
       )
 
   falls : {h : List Event} {s s′ : State} {work u t x : ℕ} → Trace K net h s → Rule K net work s Route-call (Sent u t x) s′ → (1 ≤ x) × (owed s′ (net .places) + x ≡ owed s (net .places))

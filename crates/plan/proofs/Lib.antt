@@ -7,6 +7,7 @@ pub mod Send
 pub mod Rings
 pub mod Shorter
 pub mod Walks
+pub mod Found
 pub mod Least
 pub mod Cheapest
 pub mod Algebra

@@ -1,4 +1,4 @@
--- Walks of open steps are cut down to routes; entries that no step lowers are least costs, or prices.
+-- Walks of open steps: their rooms, and how they are cut down to routes.
 use mathlib.Core.Path.{_≡_, sym, subst, _∙_}
 use mathlib.Core.Logic.{_⊎_, inl, inr, ⊎-elim}
 use mathlib.Core.List.{List, [], _∷_, _++_}
@@ -6,17 +6,16 @@ use Prim.Native.Nat.{ℕ, _≤_, _<_}
 use native.Mathlib.Omega.{arith}
 use lib.ListN.{length}
 use Rattle.std.specs.shelf.Lists.{All}
-use Rattle.costs.specs.Group.{Below}
 use Rattle.costs.specs.Kind.{Kind}
 use Rattle.networks.specs.Net.{Net}
 use Rattle.plan.specs.declared.step.Step.{Step}
 use Rattle.plan.specs.State.{State}
-use Rattle.plan.specs.Steps.{Gives, Leads, there, then, Route, Reach, Least, Price, Losing}
+use Rattle.plan.specs.Steps.{Gives, forth, behind, Leads, there, then, Route, Least, Price, Losing}
 use Rattle.plan.specs.Standing.{Inside, Potential, Standing}
 use Rattle.plan.proofs.Flow.{unit-of, price-of}
 use Rattle.plan.proofs.Bridge.{seen, joined-seen, potential-seen, given, led, routed, route, losing-cheap, cheap-losing}
 use Rattle.plan.proofs.Rings.{no-cheap-ring}
-use Rattle.plan.proofs.Shorter.{simple-or, simple-short, to-inside}
+use Rattle.plan.proofs.Shorter.{simple-or, simple-short}
 
 module _ {C R : Type 0} (K : Kind C R) (net : Net C) (f : List ℕ) where
   -- a step says where it leads, at what cost, and how much room it has
@@ -70,12 +69,19 @@ module _ {C R : Type 0} (K : Kind C R) (net : Net C) (f : List ℕ) where
         cheaper = subst (K .group .le _) (sym (t .costs)) (r .cheaper);
       })) (simple-or (seen K net) f u v ss (t .leads) (t .opens))
 
-  -- a walk that starts at a place ends at one
+  -- a step joins two places
+  pub gives-inside : {s : Step} {u v r : ℕ} {c : K .group .Carrier} → Inside net → Gives K net f s u v c r → (u < net .places) × (v < net .places)
+  gives-inside ends (forth k w e l) = ends k w e
+  gives-inside ends (behind k w e l) = let i = ends k w e in (i .1, i .0)
+
+  -- so a walk of some steps starts at a place
+  pub walk-start : {x u v : ℕ} {s : Step} {ss : List Step} {vs : List ℕ} {c : K .group .Carrier} → Inside net → Leads K net f x u (s ∷ ss) vs v c → u < net .places
+  walk-start ends (then u v w s ss vs c d r g l rest) = gives-inside ends g .0
+
+  -- and a walk that starts at a place ends at one
   pub walk-inside : {x u v : ℕ} {ss : List Step} {vs : List ℕ} {c : K .group .Carrier} → Inside net → u < net .places → Leads K net f x u ss vs v c → v < net .places
   walk-inside ends l (there u) = l
-  walk-inside ends l (then u v w s ss vs c d r g e rest) =
-      let i = given K net f g in
-      walk-inside ends (subst (λ p. p < net .places) (i .ends) (to-inside (seen K net) (joined-seen K net ends) f s (record { real = i .real; enough = rw (i .room) (i .some) }))) rest
+  walk-inside ends l (then u v w s ss vs c d r g e rest) = walk-inside ends (gives-inside ends g .1) rest
 
   -- a route has fewer steps than there are places
   pub route-short : {x u v : ℕ} {ss : List Step} {c : K .group .Carrier} → Inside net → u < net .places → Route K net f x u ss v c → length ss < net .places
@@ -84,62 +90,11 @@ module _ {C R : Type 0} (K : Kind C R) (net : Net C) (f : List ℕ) where
       simple-short (seen K net) (joined-seen K net ends) f u ss l (t .2 .opens) (t .0 .apart)
 
   -- a walk that costs less than each walk of fewer steps than there are places shows a ring that costs less than zero
-  pub losing-by : {u v : ℕ} {ss : List Step} {vs : List ℕ} {c : K .group .Carrier} (d : K .group .Carrier) → Inside net → u < net .places →
-      Leads K net f 1 u ss vs v c → Below (K .group) c d →
-      ((rs : List Step) (ws : List ℕ) (e : K .group .Carrier) → length rs < net .places → Leads K net f 1 u rs ws v e → K .group .le d e) → Losing K net f
-  losing-by d ends l walk below least = ⊎-elim (λ losing. losing)
-      (λ r. absurd (below .1 (K .group .antisym _ _ (below .0) (K .group .trans _ _ _ (least (r .steps) (r .route .met) (r .cost) (route-short ends l (r .route)) (r .route .leads)) (r .cheaper)))))
+  pub losing-by : {u v : ℕ} {ss : List Step} {vs : List ℕ} {c : K .group .Carrier} → Inside net → u < net .places → Leads K net f 1 u ss vs v c →
+      ((rs : List Step) (ws : List ℕ) (d : K .group .Carrier) → length rs < net .places → Leads K net f 1 u rs ws v d → K .group .le d c → ⊥) → Losing K net f
+  losing-by ends l walk less = ⊎-elim (λ losing. losing)
+      (λ r. absurd (less (r .steps) (r .route .met) (r .cost) (route-short ends l (r .route)) (r .route .leads) (r .cheaper)))
       (cut-down walk)
-
-  -- over a walk the entries d, which no step from In lowers, rise by no more than it costs
-  rises : (In : ℕ → Type 0) (d : ℕ → K .group .Carrier) →
-      ((s : Step) (v w : ℕ) (c : K .group .Carrier) (r : ℕ) → Gives K net f s v w c r → In v → In w × K .group .le (d w) (K .group .plus (d v) c)) →
-      {x u v : ℕ} {ss : List Step} {vs : List ℕ} {c : K .group .Carrier} → In u → Leads K net f x u ss vs v c → In v × K .group .le (d v) (K .group .plus (d u) c)
-  rises In d closed i (there u) = (i, subst (K .group .le (d u)) (sym (unit-of (K .group) (d u))) (K .group .refl-le (d u)))
-  rises In d closed i (then u v w s ss vs c e r g l rest) =
-      let a = closed s u v c r g i in
-      let b = rises In d closed (a .0) rest in
-      (b .0, subst (K .group .le (d w)) (K .group .assoc (d u) c e) (K .group .trans _ _ _ (b .1) (K .group .shift _ _ e (a .1))))
-
-  -- from an entry of at most zero
-  rises-from : {x y c : K .group .Carrier} → K .group .le x (K .group .plus y c) → K .group .le y (K .group .zero) → K .group .le x c
-  rises-from {x} {y} {c} a b = K .group .trans _ _ _ a (subst (K .group .le (K .group .plus y c)) (K .group .unit c) (K .group .shift y (K .group .zero) c b))
-
-  -- entries d, at the places In, of a search from u: no step lowers one, and each is the cost of a walk
-  pub record Distances (u : ℕ) (In : ℕ → Type 0) (d : ℕ → K .group .Carrier) : Type 0 where
-    pub first : In u
-    pub start : K .group .le (d u) (K .group .zero)
-    pub closed : (s : Step) (v w : ℕ) (c : K .group .Carrier) (r : ℕ) → Gives K net f s v w c r → In v → In w × K .group .le (d w) (K .group .plus (d v) c)
-    pub walked : (v : ℕ) → In v → (ss : List Step) × (vs : List ℕ) × Leads K net f 1 u ss vs v (d v)
-
-  -- they are the least costs
-  pub least-by : {u : ℕ} {In : ℕ → Type 0} {d : ℕ → K .group .Carrier} → (Losing K net f → ⊥) → Distances u In d → (v : ℕ) → In v → Least K net f u v (d v)
-  least-by {u} {In} {d} sound e v i =
-      let under : (ss : List Step) (c : K .group .Carrier) → Route K net f 1 u ss v c → K .group .le (d v) c =
-      λ ss c r. rises-from (rises In d (e .closed) (e .first) (r .leads) .1) (e .start) in
-      ⊎-elim (λ losing. absurd (sound losing))
-      (λ r. record { taken = (r .steps, subst (Route K net f 1 u (r .steps) v) (K .group .antisym _ _ (r .cheaper) (under (r .steps) (r .cost) (r .route))) (r .route)); least = under })
-      (cut-down (e .walked v i .2))
-
-  -- and the places In are the reach of u
-  pub reach-in : {u : ℕ} {In : ℕ → Type 0} {d : ℕ → K .group .Carrier} → Distances u In d → (v : ℕ) → Reach K net f u v → In v
-  reach-in {u} {In} {d} e v r = rises In d (e .closed) (e .first) (r .2 .leads) .0
-
-  -- entries d of a search from all places at once: no step lowers one, and each is the cost of a walk
-  pub record Prices (d : ℕ → K .group .Carrier) : Type 0 where
-    pub start : (v : ℕ) → v < net .places → K .group .le (d v) (K .group .zero)
-    pub closed : Potential K net f d
-    pub walked : (v : ℕ) → v < net .places → (u : ℕ) × (ss : List Step) × (vs : List ℕ) × (u < net .places) × Leads K net f 1 u ss vs v (d v)
-
-  -- they are the prices
-  pub price-by : {d : ℕ → K .group .Carrier} → Prices d → (v : ℕ) → v < net .places → Price K net f v (d v)
-  price-by {d} e v l =
-      let under : (u : ℕ) (ss : List Step) (c : K .group .Carrier) → u < net .places → Route K net f 1 u ss v c → K .group .le (d v) c =
-      λ u ss c b r. rises-from (rises (λ _. Unit {0}) d (λ s p q c r g i. (tt, e .closed s p q c r g)) tt (r .leads) .1) (e .start u b) in
-      let w = e .walked v l in
-      ⊎-elim (λ losing. absurd (no-losing d (e .closed) losing))
-      (λ r. record { taken = (w .0, r .steps, w .3, subst (Route K net f 1 (w .0) (r .steps) v) (K .group .antisym _ _ (r .cheaper) (under (w .0) (r .steps) (r .cost) (w .3) (r .route))) (r .route)); least = under })
-      (cut-down (w .4))
 
   -- there is one least cost, and one price
   pub one-least : {u v : ℕ} {c d : K .group .Carrier} → Least K net f u v c → Least K net f u v d → c ≡ d
