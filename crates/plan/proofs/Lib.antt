@@ -8,6 +8,7 @@ pub mod Rings
 pub mod Shorter
 pub mod Walks
 pub mod Found
+pub mod Rising
 pub mod Least
 pub mod Cheapest
 pub mod Algebra
