@@ -1,4 +1,4 @@
--- The statement's words, and the words of the proofs.
+-- What the definitions say of a network, in the words of Flow, and back.
 use mathlib.Core.Path.{_≡_, refl, sym, ap, ap₂, subst, subst₂, _∙_}
 use mathlib.Core.Logic.{_≢_}
 use mathlib.Core.Bool.{cond}

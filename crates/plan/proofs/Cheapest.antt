@@ -1,4 +1,4 @@
--- Where no ring costs less than zero, cheapest routes and a potential.
+-- Where no ring costs less than zero, there are cheapest routes and a potential.
 use mathlib.Core.Path.{_≡_, refl, ap, subst, _∙_}
 use mathlib.Core.Logic.{_⊎_, inl, inr, ⊎-elim}
 use mathlib.Core.List.{List, [], _∷_, _++_}

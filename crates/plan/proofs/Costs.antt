@@ -1,4 +1,4 @@
--- Multiples, order and sums of costs.
+-- Multiples, order and sums in an ordered commutative group.
 use mathlib.Core.Path.{_≡_, refl, sym, ap, subst, subst₂, _∙_}
 use mathlib.Core.Logic.{_≢_, _⊎_, inl, inr, ⊎-elim}
 use mathlib.Core.Bool.{Bool, true, false, cond}

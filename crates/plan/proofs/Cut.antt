@@ -1,4 +1,4 @@
--- No load takes more out of a closed set.
+-- No load takes more out of a set that no open step leaves.
 use mathlib.Core.Path.{_≡_, refl, sym, ap, ap₂, subst, subst₂, _∙_}
 use mathlib.Core.Logic.{⊎-elim}
 use mathlib.Core.Bool.{Bool, true, false, cond}

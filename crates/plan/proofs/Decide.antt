@@ -44,7 +44,7 @@ module _ {g : Group} (net : Net g) (f : List ℕ) where
   ended a v [] leads h = h .0 (sym leads)
   ended a v (s ∷ ss) leads h = ended (to net s) v ss (leads .1) (h .1)
 
-  -- a route Back to where it starts has no step
+  -- a route back to where it starts has no step
   still : (u : ℕ) (ss : List Step) → Leads net u ss u → Apart (stops net u ss) → price-of net ss ≡ g .zero
   still u [] leads apart = refl
   still u (s ∷ ss) leads apart = absurd (ended (to net s) u ss (leads .1) (apart .0))

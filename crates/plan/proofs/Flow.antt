@@ -89,7 +89,7 @@ pub record Carries {g : Group} (net : Net g) (load : List ℕ) (x : ℕ) (s : St
   pub real : which s < count net
   pub enough : x ≤ room net load s
 
--- a potential: no open step leads to a place that it makes cheaper
+-- over no open step does π rise by more than the step costs
 abbrev pub Potential : {g : Group} → Net g → List ℕ → (ℕ → g .Carrier) → Type 0
 Potential {g} net load π = (s : Step) → Carries net load 1 s → g .le (π (to net s)) (g .plus (π (from net s)) (price net s))
 

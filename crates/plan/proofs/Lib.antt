@@ -1,3 +1,4 @@
+-- The proofs about plans.
 pub mod Flow
 pub mod Sums
 pub mod Costs
@@ -17,6 +18,7 @@ pub mod Augment
 pub mod Moves
 pub mod Faults
 pub mod Standing
+pub mod Kept
 pub mod Stands
 pub mod Decide
 pub mod Answered

@@ -1,4 +1,4 @@
--- Rests: what a move changes, and what is owed.
+-- What a move of x between two rests changes: each rest, their sum, and what is owed.
 use mathlib.Core.Path.{_≡_, refl, sym, ap, subst, _∙_}
 use mathlib.Core.Logic.{_≢_, ⊎-elim}
 use mathlib.Core.Bool.{cond}

@@ -1,4 +1,4 @@
--- A load with a potential is the cheapest.
+-- A load with a potential is the cheapest of those that let the same leave each place.
 use mathlib.Core.Path.{_≡_, sym, ap, ap₂, subst, subst₂, _∙_}
 use mathlib.Core.List.{List}
 use Prim.Native.Nat.{ℕ, _+_, _≤_, _<_}
@@ -11,14 +11,13 @@ use Rattle.plan.proofs.Flow.{total, times, unit-of, Net, Joined, Keeps, Potent
 use Rattle.plan.proofs.Sums.{left-comm, total-same, total-add}
 use Rattle.plan.proofs.Costs.{adds, cancel, times-add, times-plus, weigh-all, by-places}
 
--- a step Back at the opposite cost, said without the opposite
+-- a step back at the opposite cost, said without the opposite
 pub taken-back : (g : Group) (x y c : g .Carrier) → g .le x (g .plus y (g .opp c)) → g .le (g .plus x c) y
 taken-back g x y c h = subst (g .le (g .plus x c)) (g .assoc _ _ _ ∙ ap (g .plus y) (g .comm _ _ ∙ g .inverse c) ∙ unit-of g y) (g .shift _ _ c h)
 
 crossed : (a b c d : ℕ) → pos a -ℤ pos b ≡ pos c -ℤ pos d → c + b ≡ a + d
 crossed a b c d e = omega (arith, ints)
 
--- a load with a potential is the cheapest of those that let the same leave each place
 pub optimal : (g : Group) (net : Net g) (f f′ : List ℕ) (π : ℕ → g .Carrier) →
     Joined net → Potential net f π → Keeps net f′ → ((v : ℕ) → v < net .places → leaving net f′ v ≡ leaving net f v) → g .le (cost net f) (cost net f′)
 optimal g net f f′ π joined valid keeps′ same =

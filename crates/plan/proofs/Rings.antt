@@ -1,4 +1,4 @@
--- Rings of open steps.
+-- Where there is a potential, no ring of open steps costs less than zero.
 use mathlib.Core.Path.{sym, ap, subst, subst₂, _∙_}
 use mathlib.Core.List.{List, [], _∷_}
 use Prim.Native.Nat.{ℕ}

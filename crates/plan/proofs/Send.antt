@@ -1,4 +1,4 @@
--- Sending more along a route.
+-- Sending more along a route: limits, what leaves each place, and a potential that is tight along it.
 use mathlib.Core.Path.{_≡_, refl, sym, ap, ap₂, subst, _∙_}
 use mathlib.Core.Logic.{_≢_, ⊎-elim}
 use mathlib.Core.Bool.{Bool, true, false, cond}

@@ -1,20 +1,18 @@
--- The law over runs.
-use mathlib.Core.Path.{_≡_, refl, sym, ap, ap₂, subst, subst₂, _∙_}
+-- The law over runs holds.
+use mathlib.Core.Path.{_≡_, refl, sym, ap, ap₂, subst₂, _∙_}
 use mathlib.Core.Logic.{_≢_, _⊎_, inl, inr, ⊎-elim}
-use mathlib.Core.Bool.{Bool, true, false, cond}
-use mathlib.Core.List.{List, _∷_, map}
-use Prim.Native.Nat.{ℕ, zero, suc, _+_, _≤_, _<_}
+use mathlib.Core.Bool.{true, false}
+use mathlib.Core.List.{List, _∷_}
+use Prim.Native.Nat.{ℕ, zero, suc, _+_, _≤_}
 use native.Mathlib.Omega.{arith}
-use lib.ListN.{length, getD, replicate, length-replicate, getD-replicate, length-map}
-use lib.IntN.{ℤ, pos, negℤ, _+ℤ_, _-ℤ_}
-use lib.Signed.{_≤ℤ_}
+use lib.IntN.{ℤ, pos, _+ℤ_, _-ℤ_}
 use Rattle.std.specs.shelf.Lists.{Has}
 use Rattle.std.specs.declared.option.Option.the-variants.{None}
 use Rattle.std.proofs.shelf.Signed.{ints}
-use Rattle.std.proofs.shelf.Tests.{both-ways, cases-eq}
+use Rattle.std.proofs.shelf.Tests.{both-ways}
 use Rattle.costs.specs.Kind.{Kind}
 use Rattle.networks.specs.Net.{Net}
-use Rattle.plan.specs.Loads.{leaving, Keeps}
+use Rattle.plan.specs.Loads.{leaving}
 use Rattle.plan.specs.Steps.{Losing}
 use Rattle.plan.specs.declared.calls.Answer.{Answer}
 use Rattle.plan.specs.declared.calls.Answer.the-variants.{Opened, Booked, Settled, Blocked, Ran}
@@ -24,47 +22,22 @@ use Rattle.plan.specs.declared.calls.Ending.{Ending}
 use Rattle.plan.specs.declared.calls.Ending.the-variants as ending
 use Rattle.plan.specs.State.{State, rest, Event}
 use Rattle.plan.specs.Checks.{open-fault}
-use Rattle.plan.specs.Rules.{move, At-rest, Repeats, Rule, open-refused, open-losing, open-accepted, book-refused, book-accepted, route-refused, route-settled, route-blocked, route-sent, settle-refused, settle-ran}
-use Rattle.plan.specs.Standing.{Passed, Standing}
+use Rattle.plan.specs.Rules.{At-rest, Repeats, Rule, open-refused, open-losing, open-accepted, book-refused, book-accepted, route-refused, route-settled, route-blocked, route-sent, settle-refused, settle-ran}
+use Rattle.plan.specs.Standing.{Standing}
 use Rattle.plan.specs.Law.{booked-by, bookings, owed, Trace, start, then, Possible, Sound, Blocks, Law}
-use Rattle.plan.proofs.Flow as flow
-use Rattle.costs.specs.Whole.{whole-group}
-use Rattle.plan.proofs.Sums.{total-none}
-use Rattle.plan.proofs.Costs.{adds, nats}
-use Rattle.plan.proofs.Bridge.{way-of, seen, joined-seen, seen-potential, keeps-seen, seen-keeps, cost-seen, leaving-seen, cheap-losing}
+use Rattle.plan.proofs.Bridge.{seen, keeps-seen, cost-seen, leaving-seen}
 use Rattle.plan.proofs.Optimal.{optimal}
-use Rattle.plan.proofs.Cheapest.{has-potential}
-use Rattle.plan.proofs.Moves.{here, away, move-at, move-long, move-all, owed-is, rests-is, none-owed}
+use Rattle.plan.proofs.Moves.{owed-is, none-owed}
 use Rattle.plan.proofs.Send.{spot}
 use Rattle.plan.proofs.Faults.{open-passed, open-shut, open-none, Bookable, bookable}
-use Rattle.plan.proofs.Standing.{inside, joined, keeps, valid, level, sends-stands, repeats-stands, repeats-owed, Good, sends-good, repeats-good, stuck-short}
+use Rattle.plan.proofs.Standing.{joined, keeps, valid, level, repeats-stands, repeats-owed, Good, sends-good, repeats-good, stuck-short}
+use Rattle.plan.proofs.Kept.{none-yet, zero-leaving, none-rest, fresh, fresh-stands, booked, rests-booked, booked-stands}
 
 has-cons : {X : Type 0} (y : X) (xs : List X) (x : X) → Has (y ∷ xs) x → (y ≡ x) ⊎ Has xs x
 has-cons y xs x (zero, l, at) = inl (at y)
 has-cons y xs x (suc k, l, at) = inr (k, omega arith, at)
 
-cond-same : (b : Bool) (n : ℕ) → n ≡ 0 → cond b n 0 ≡ 0
-cond-same true n e = e
-cond-same false n e = refl
-
 module _ {C R : Type 0} (K : Kind C R) (net : Net C) where
-  abbrev none-yet : List ℕ
-  none-yet = replicate (length (net .ways)) 0
-
-  zero-at : (k : ℕ) → k < length (map (way-of K) (net .ways)) → getD none-yet k 0 ≡ 0
-  zero-at k l = getD-replicate (length (net .ways)) k 0 0 (subst (λ n. k < n) (length-map (net .ways) (way-of K)) l)
-
-  zero-keeps : flow.Keeps (seen K net) none-yet
-  zero-keeps = record {
-    whole = length-replicate (length (net .ways)) 0 ∙ sym (length-map (net .ways) (way-of K));
-    within = λ k l. let e = zero-at k l in omega arith;
-  }
-
-  zero-leaving : (v : ℕ) → leaving net none-yet v ≡ pos 0
-  zero-leaving v =
-      leaving-seen K net none-yet v zero-keeps
-      ∙ ap₂ (λ a b. pos a -ℤ pos b) (total-none nats _ _ (λ k l. cond-same _ _ (zero-at k l))) (total-none nats _ _ (λ k l. cond-same _ _ (zero-at k l)))
-
   -- a plan that was never opened
   record Shut (h : List Event) (s : State) : Type 0 where
     shut : s .open? ≡ false
@@ -88,92 +61,16 @@ module _ {C R : Type 0} (K : Kind C R) (net : Net C) where
   same e i n (inl shut) = inl (same-shut e i n shut)
   same e i n (inr good) = inr (same-good e i good)
 
-  none-rest : (v : ℕ) → v < net .places → getD (replicate (net .places) (pos 0)) v (pos 0) ≡ pos 0
-  none-rest v l = getD-replicate (net .places) v (pos 0) (pos 0) l
-
-  -- the plan that an accepted open leaves
-  abbrev pub fresh : State
-  fresh = record { open? = true; loads = none-yet; rests = replicate (net .places) (pos 0); count = 0 }
-
-  pub fresh-stands : Passed K net → (Losing K net none-yet → ⊥) → Standing K net fresh
-  fresh-stands passed sound =
-      let p = has-potential (K .group) (seen K net) none-yet (joined-seen K net (inside K net passed)) (λ c. sound (cheap-losing K net none-yet c)) in
-      record {
-        opened = refl;
-        passed = passed;
-        keeps = seen-keeps K net none-yet zero-keeps;
-        whole = length-replicate (net .places) (pos 0);
-        potential = (p .0, seen-potential K net none-yet (p .0) (p .1));
-        level = rests-is fresh (net .places) ∙ total-none (adds whole-group) (net .places) _ none-rest;
-        lowest = λ v l. let e = none-rest v l in omega (arith, ints);
-        highest = λ v l. let e = none-rest v l in omega (arith, ints);
-      }
-
-  -- the plan that an accepted booking leaves
-  abbrev pub booked : State → ℕ → ℕ → ℕ → State
-  booked s a b amount = record { open? = s .open?; loads = s .loads; rests = move (s .rests) a b amount; count = s .count }
-
-  module _ {s : State} (a b amount : ℕ) (may : Bookable net s a b amount) (stands : Standing K net s) where
-    rests-booked : (v : ℕ) → rest (booked s a b amount) v +ℤ spot amount b v ≡ rest s v +ℤ spot amount a v
-    rests-booked v = move-at (s .rests) a b amount v (rw (stands .whole) (may .first)) (rw (stands .whole) (may .second)) (may .apart)
-
-    bounds : (v : ℕ) → v < net .places → (negℤ (pos 1000000000) ≤ℤ rest (booked s a b amount) v) × (rest (booked s a b amount) v ≤ℤ pos 1000000000)
-    bounds v l =
-        let e = rests-booked v in
-        let lo = stands .lowest v l in
-        let hi = stands .highest v l in
-        let top = may .highest in
-        let bottom = may .lowest in
-        ⊎-elim
-        (λ i. let r : rest s a ≡ rest s v = ap (rest s) i in
-        let p : spot amount a v ≡ pos amount = subst (λ w. spot amount a w ≡ pos amount) i (here amount a) in
-        let q : spot amount b v ≡ pos 0 = away amount b v (λ j. may .apart (i ∙ sym j)) in
-        (omega (arith, ints), omega (arith, ints)))
-        (λ na. let p : spot amount a v ≡ pos 0 = away amount a v na in
-        ⊎-elim
-        (λ i. let r : rest s b ≡ rest s v = ap (rest s) i in
-        let q : spot amount b v ≡ pos amount = subst (λ w. spot amount b w ≡ pos amount) i (here amount b) in
-        (omega (arith, ints), omega (arith, ints)))
-        (λ nb. let q : spot amount b v ≡ pos 0 = away amount b v nb in (omega (arith, ints), omega (arith, ints)))
-        (cases-eq b v))
-        (cases-eq a v)
-
-    pub booked-stands : Standing K net (booked s a b amount)
-    booked-stands = record {
-      opened = stands .opened;
-      passed = stands .passed;
-      keeps = stands .keeps;
-      whole = move-long (s .rests) a b amount ∙ stands .whole;
-      potential = stands .potential;
-      level = rests-is (booked s a b amount) (net .places) ∙ move-all (net .places) a b amount (rest s) (rest (booked s a b amount)) (may .first) (may .second) (λ v l. rests-booked v) ∙ level K net stands;
-      lowest = λ v l. bounds v l .0;
-      highest = λ v l. bounds v l .1;
-    }
-
-  -- what holds of an open plan lasts over every call
-  pub rule-stands : {s s′ : State} {work : ℕ} {c : Call} {a : Answer} → Standing K net s → Rule K net work s c a s′ → Standing K net s′
-  rule-stands stands (open-refused s r e) = stands
-  rule-stands stands (open-losing s e l) = stands
-  rule-stands stands (open-accepted s e n) = absurd (both-ways (s .open?) (open-shut K net s _ e) (stands .opened))
-  rule-stands stands (book-refused s from to amount r e) = stands
-  rule-stands stands (book-accepted s from to amount e) = booked-stands from to amount (bookable net s from to amount e) stands
-  rule-stands stands (route-refused s r e) = stands
-  rule-stands stands (route-settled s e r) = stands
-  rule-stands stands (route-blocked s u e r) = stands
-  rule-stands stands (route-sent s s′ u t x e r) = sends-stands K net stands r
-  rule-stands stands (settle-refused s budget r e) = stands
-  rule-stands stands (settle-ran s s′ budget n z e l r ends) = repeats-stands K net stands r
-
-  begin : {h : List Event} {s : State} (work : ℕ) → open-fault K net s work ≡ None → (Losing K net none-yet → ⊥) → Shut h s → Good K net (record { call = Open; work = work; answer = Opened } ∷ h) fresh
+  begin : {h : List Event} {s : State} (work : ℕ) → open-fault K net s work ≡ None → (Losing K net (none-yet K net) → ⊥) → Shut h s → Good K net (record { call = Open; work = work; answer = Opened } ∷ h) (fresh K net)
   begin {h} {s} work e sound shut = record {
-    stands = fresh-stands (open-passed K net s work e) sound;
-    accounted = λ v l. ap₂ _+ℤ_ (zero-leaving v) (none-rest v l) ∙ sym (ap (λ z. pos 0 +ℤ z) (shut .nothing v));
+    stands = fresh-stands K net (open-passed K net s work e) sound;
+    accounted = λ v l. ap₂ _+ℤ_ (zero-leaving K net v) (none-rest K net v l) ∙ sym (ap (λ z. pos 0 +ℤ z) (shut .nothing v));
   }
 
-  book : {h : List Event} {s : State} (work a b amount : ℕ) → Bookable net s a b amount → Good K net h s → Good K net (record { call = Book a b amount; work = work; answer = Booked } ∷ h) (booked s a b amount)
+  book : {h : List Event} {s : State} (work a b amount : ℕ) → Bookable net s a b amount → Good K net h s → Good K net (record { call = Book a b amount; work = work; answer = Booked } ∷ h) (booked K net s a b amount)
   book {h} {s} work a b amount may good = record {
-    stands = booked-stands a b amount may (good .stands);
-    accounted = λ v l. across (leaving net (s .loads) v) (rest s v) (rest (booked s a b amount) v) (spot amount b v) (spot amount a v) (bookings h v) (rests-booked a b amount may (good .stands) v) (good .accounted v l);
+    stands = booked-stands K net a b amount may (good .stands);
+    accounted = λ v l. across (leaving net (s .loads) v) (rest s v) (rest (booked K net s a b amount) v) (spot amount b v) (spot amount a v) (bookings h v) (rests-booked K net a b amount may (good .stands) v) (good .accounted v l);
   }
     where
       across : (l r r′ p q z : ℤ) → r′ +ℤ p ≡ r +ℤ q → l +ℤ r ≡ z → l +ℤ r′ ≡ (q -ℤ p) +ℤ z
