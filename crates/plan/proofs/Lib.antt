@@ -1,0 +1,25 @@
+-- The proofs about plans.
+pub mod Flow
+pub mod Sums
+pub mod Costs
+pub mod Optimal
+pub mod Cut
+pub mod Send
+pub mod Rings
+pub mod Shorter
+pub mod Walks
+pub mod Found
+pub mod Rising
+pub mod Least
+pub mod Cheapest
+pub mod Algebra
+pub mod Bridge
+pub mod Augment
+pub mod Moves
+pub mod Faults
+pub mod Standing
+pub mod Kept
+pub mod Stands
+pub mod Decide
+pub mod Answered
+pub mod Determined

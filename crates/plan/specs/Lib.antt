@@ -4,4 +4,6 @@ pub mod Steps
 pub mod State
 pub mod Checks
 pub mod Rules
+pub mod Standing
 pub mod Law
+pub mod Determined

@@ -1,7 +1,7 @@
 -- The steps (residual arcs) that a load leaves, and the routes, rings, reach and prices that they give.
 use mathlib.Core.Path.{_≡_}
 use mathlib.Core.Logic.{_≢_}
-use mathlib.Core.List.{List, [], _∷_, map}
+use mathlib.Core.List.{List, [], _∷_}
 use Prim.Native.Nat.{ℕ, _-_, _≤_, _<_}
 use lib.ListN.{getD}
 use Rattle.std.specs.Finite.{nth}

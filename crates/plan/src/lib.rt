@@ -1,6 +1,9 @@
 mod calls;
+mod laws;
 mod step;
 
 pub use calls::Answer;
 pub use calls::Call;
 pub use calls::Ending;
+pub use laws::determined_stands;
+pub use laws::law_stands;
