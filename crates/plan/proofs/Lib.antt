@@ -23,3 +23,4 @@ pub mod Stands
 pub mod Decide
 pub mod Answered
 pub mod Determined
+pub mod Checked

@@ -38,6 +38,12 @@ abbrev pub fault-of-ways : {C R : Type 0} (K : Kind C R) → ℕ → ℕ → Lis
 fault-of-ways K n k [] = None
 fault-of-ways K n k (w ∷ ws) = or-else (fault-of-way K n k w) (fault-of-ways K n (suc k) ws)
 
+-- what is wrong with a network, whoever opens a plan over it
+abbrev pub net-fault : {C R : Type 0} (K : Kind C R) → Net C → Option Refusal
+net-fault K net =
+    or-else (when (eqb (net .places) 0 || ltb 1024 (net .places)) BadPlaces)
+    (or-else (when (ltb 3000 (length (net .ways))) ManyWays) (fault-of-ways K (net .places) 0 (net .ways)))
+
 abbrev pub open-fault : {C R : Type 0} (K : Kind C R) → Net C → State → ℕ → Option Refusal
 open-fault K net s work =
     or-else (when (s .open?) AlreadyOpen)

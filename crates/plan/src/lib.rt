@@ -1,4 +1,5 @@
 mod calls;
+mod checks;
 mod laws;
 mod step;
 
