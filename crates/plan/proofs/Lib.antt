@@ -1,0 +1,4 @@
+pub mod Noting
+pub mod Sweeping
+pub mod Relaxing
+pub mod Trying

@@ -1,6 +1,9 @@
 -- What the contracts of this crate cite.
 pub mod Loads
 pub mod Steps
+pub mod Entries
+pub mod Sweeps
+pub mod Rounds
 pub mod State
 pub mod Checks
 pub mod Rules

@@ -1,4 +1,6 @@
 mod calls;
+mod relax;
+mod scan;
 mod step;
 
 pub use calls::Answer;
