@@ -2,3 +2,6 @@ pub mod Noting
 pub mod Sweeping
 pub mod Relaxing
 pub mod Trying
+pub mod Walking
+pub mod Tracing
+pub mod Running

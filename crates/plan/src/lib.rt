@@ -1,5 +1,6 @@
 mod calls;
 mod relax;
+mod rounds;
 mod scan;
 mod step;
 
