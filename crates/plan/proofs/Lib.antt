@@ -5,3 +5,4 @@ pub mod Trying
 pub mod Walking
 pub mod Tracing
 pub mod Running
+pub mod Starting

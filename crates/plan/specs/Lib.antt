@@ -4,6 +4,7 @@ pub mod Steps
 pub mod Entries
 pub mod Sweeps
 pub mod Rounds
+pub mod Starts
 pub mod State
 pub mod Checks
 pub mod Rules

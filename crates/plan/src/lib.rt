@@ -2,6 +2,7 @@ mod calls;
 mod relax;
 mod rounds;
 mod scan;
+mod start;
 mod step;
 
 pub use calls::Answer;
