@@ -1,28 +1,28 @@
 -- One scan after others: what holds after n of them, and at the end.
 use mathlib.Core.Path.{_≡_, refl, sym, ap, subst, _∙_}
 use mathlib.Core.List.{List, [], _∷_, _++_}
-use mathlib.Core.Bool.{Bool, true, false}
-use mathlib.Core.Logic.{_⊎_, inl, inr, ⊎-elim}
+use mathlib.Core.Bool.{true, false}
+use mathlib.Core.Logic.{⊎-elim}
 use native.Mathlib.Omega.{arith}
 use native.Mathlib.Nat.{add-mul, mul-le-mul-right}
-use Prim.Native.Nat.{ℕ, suc, _+_, _*_, _≤_, _<_}
+use Prim.Native.Nat.{ℕ, _+_, _*_, _≤_, _<_}
 use lib.ListN.{length}
 use Rattle.std.specs.declared.option.Option.the-variants.{Some}
 use Rattle.std.proofs.shelf.Tests.{cases-eq, false≢true}
-use Rattle.costs.specs.Group.{Group, Below}
+use Rattle.costs.specs.Group.{Group}
 use Rattle.costs.specs.Kind.{Kind, values}
 use Rattle.networks.specs.Net.{Net}
 use Rattle.plan.specs.declared.step.Step.{Step}
-use Rattle.plan.specs.Entries.{Work, Most, write, entry, Under}
+use Rattle.plan.specs.Entries.{Work, Most, write, entry, Under, Fits}
 use Rattle.plan.specs.Rounds.{Walk, Walked, Fell, Rounds}
 use Rattle.plan.specs.Steps.{Gives, Leads}
 use Rattle.plan.specs.Steps.Leads.{there, then}
 use Rattle.plan.specs.Sweeps.{Moves, Swept, Left}
 use Rattle.plan.specs.Sweeps.Moves.{stay, move}
-use Rattle.plan.proofs.Noting.{noted-same, noted-other}
+use Rattle.plan.proofs.Noting.{noted-same, noted-other, noted-within}
 use Rattle.plan.proofs.Sweeping.{most-is, most-le, below-le, moves-grow, moves-kept, moves-join}
 use Rattle.plan.proofs.Tracing.{moves-traced}
-use Rattle.plan.proofs.Walking.{plus-zero, gives-room, leads-more, leads-last}
+use Rattle.plan.proofs.Walking.{plus-zero, gives-room, leads-more, leads-last, leads-within}
 
 module _ {C R : Type 0} (K : Kind C R) (net : Net C) (loads : List ℕ) where
   abbrev G : Group
@@ -81,19 +81,22 @@ module _ {C R : Type 0} (K : Kind C R) (net : Net C) (loads : List ℕ) where
     }
 
   -- each entry is the value of a walk
-  pub moves-walked : {t t′ : Work R} → Moves K (Left K net loads) t t′ → (v : ℕ) (y : G .Carrier) → entry K t′ v ≡ Some y → Walked K net loads t v y
-  moves-walked stay v y e = record {
+  pub moves-walked : {t t′ : Work R} → Fits K (length (t .rows)) (net .ways) → Moves K (Left K net loads) t t′ → (v : ℕ) (y : G .Carrier) → entry K t′ v ≡ Some y → Walked K net loads t v y
+  moves-walked {t} fits stay v y e = record {
     place = v;
     value = y;
     steps = [];
     cost = G .zero;
     walk = record { met = []; from = e; leads = there v };
     sum = sym (plus-zero G y);
+    start = noted-within (values K) t v y e;
+    within = tt;
   }
-  moves-walked {t} (move {t′} m s u v c x a near h r sum better) w y e =
+  moves-walked {t} fits (move {t′} m s u v c x a near h r sum better) w y e =
       ⊎-elim
       (λ (q : w ≡ v).
-      let far = moves-walked m u x near in
+      let far = moves-walked fits m u x near in
+      let leads = leads-more K net loads (far .walk .leads) (a .1) (gives-room K net loads (a .1)) in
       let some : Some (values K r) ≡ Some y = sym (ap (entry K (write t′ v r s)) q ∙ noted-same (values K) t′ v r s h) ∙ e in
       let is : values K r ≡ y = cc in
       subst (λ i. Walked K net loads t i y) (sym q) (record {
@@ -101,17 +104,19 @@ module _ {C R : Type 0} (K : Kind C R) (net : Net C) (loads : List ℕ) where
         value = far .value;
         steps = far .steps ++ s ∷ [];
         cost = G .plus (far .cost) c;
-        walk = record { met = far .walk .met ++ v ∷ []; from = far .walk .from; leads = leads-more K net loads (far .walk .leads) (a .1) (gives-room K net loads (a .1)) };
+        walk = record { met = far .walk .met ++ v ∷ []; from = far .walk .from; leads = leads };
         sum = sym is ∙ sum ∙ ap (λ z. G .plus z c) (far .sum) ∙ G .assoc (far .value) (far .cost) c;
+        start = far .start;
+        within = leads-within K net loads (length (t .rows)) fits leads;
       }))
-      (λ (q : w ≡ v → ⊥). moves-walked m w y (sym (noted-other (values K) t′ v w r s q) ∙ e))
+      (λ (q : w ≡ v → ⊥). moves-walked fits m w y (sym (noted-other (values K) t′ v w r s q) ∙ e))
       (cases-eq w v)
 
-  pub rounds-end : (n : ℕ) (t t′ : Work R) → Ran n t t′ → Rounds K net loads n t t′ false
-  rounds-end n t t′ p = record {
+  pub rounds-end : (n : ℕ) (t t′ : Work R) → Fits K (length (t .rows)) (net .ways) → Ran n t t′ → Rounds K net loads n t t′ false
+  rounds-end n t t′ fits p = record {
     kept = moves-kept K (p .moves);
     grows = moves-grow K (p .moves);
-    walked = moves-walked (p .moves);
+    walked = moves-walked fits (p .moves);
     traced = moves-traced K net loads t (p .moves);
     short = p .short;
     least = λ e. absurd (false≢true e);
@@ -130,8 +135,8 @@ module _ {C R : Type 0} (K : Kind C R) (net : Net C) (loads : List ℕ) where
       subst (Most G (entry K t w)) (G .assoc x c d) (least-of t closed p most)
 
   -- a scan that changes nothing ends the rounds
-  pub rounds-early : (n m : ℕ) (t t′ t″ : Work R) → n < m → Ran n t t′ → Swept K (Left K net loads) (Left K net loads) (2000000 * length (net .ways)) t′ t″ false → Rounds K net loads m t t″ true
-  rounds-early n m t t′ t″ l p q =
+  pub rounds-early : (n m : ℕ) (t t′ t″ : Work R) → n < m → Fits K (length (t .rows)) (net .ways) → Ran n t t′ → Swept K (Left K net loads) (Left K net loads) (2000000 * length (net .ways)) t′ t″ false → Rounds K net loads m t t″ true
+  rounds-early n m t t′ t″ l fits p q =
       let W = 2000000 * length (net .ways) in
       let moves = moves-join K (p .moves) (q .moves) in
       let closed : (s : Step) (u v : ℕ) (c x : G .Carrier) (room : ℕ) → Gives K net loads s u v c room → entry K t″ u ≡ Some x → Most G (entry K t″ v) (G .plus x c) =
@@ -141,7 +146,7 @@ module _ {C R : Type 0} (K : Kind C R) (net : Net C) (loads : List ℕ) where
       record {
         kept = moves-kept K moves;
         grows = moves-grow K moves;
-        walked = moves-walked moves;
+        walked = moves-walked fits moves;
         traced = moves-traced K net loads t moves;
         short = λ u x ss v c w _. least u x ss v c w;
         least = λ _. least;

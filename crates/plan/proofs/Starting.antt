@@ -2,9 +2,9 @@
 use mathlib.Core.Path.{_≡_, refl, sym, ap, ap₂, subst, _∙_}
 use mathlib.Core.List.{List}
 use mathlib.Core.Bool.{Bool, true, false, cond}
-use mathlib.Core.Logic.{_⊎_, ⊎-elim}
+use mathlib.Core.Logic.{⊎-elim}
 use native.Mathlib.Omega.{arith}
-use Prim.Native.Nat.{ℕ, zero, suc, _≤_, _<_}
+use Prim.Native.Nat.{ℕ, zero, suc, _<_}
 use lib.ListN.{length, getD, set, replicate}
 use Rattle.std.specs.Finite.{nth}
 use Rattle.std.specs.Options.{mapped}
@@ -34,13 +34,13 @@ module _ {R A : Type 0} (f : R → A) (rows : List R) (n s : ℕ) (r : R) (via :
   one-only v x e =
       ⊎-elim
       (λ (q : v ≡ s).
-        let some : Some (f r) ≡ Some x = sym (ap (noted f one) q ∙ one-here) ∙ e in
-        let is : x ≡ f r = cc in
-        (q, is))
+      let some : Some (f r) ≡ Some x = sym (ap (noted f one) q ∙ one-here) ∙ e in
+      let is : x ≡ f r = cc in
+      (q, is))
       (λ (q : v ≡ s → ⊥).
-        let none : None ≡ Some x = sym (noted-unseen f one v (getD-set-other (replicate n false) s v true false q ∙ unmarked n v)) ∙ e in
-        let z : _≡_ {A = ℕ} 0 1 = cc in
-        absurd (omega arith))
+      let none : None ≡ Some x = sym (noted-unseen f one v (getD-set-other (replicate n false) s v true false q ∙ unmarked n v)) ∙ e in
+      let z : _≡_ {A = ℕ} 0 1 = cc in
+      absurd (omega arith))
       (cases-eq v s)
 
 module _ {R A : Type 0} (f : R → A) (rows : List R) (r : R) (via : List Step) (full : (v : ℕ) → v < length rows → nth rows v ≡ Some r) where
@@ -68,21 +68,21 @@ module _ {C R : Type 0} (K : Kind C R) (z : C) (r : R) (zero-is : K .value z ≡
   heavy = ap (K .weighs) reads ∙ K .zero-weighs z zero-is
 
   pub alone : (rows : List R) (seen : List Bool) (n s : ℕ) → seen ≡ replicate n false → s < length rows → s < n → (via : List Step)
-    → Alone K (record { rows = set rows s r; seen = set seen s true; via = via }) s
+      → Alone K (record { rows = set rows s r; seen = set seen s true; via = via }) s
   alone rows seen n s e l m via = subst (λ bs. Alone K (record { rows = set rows s r; seen = set bs s true; via = via }) s) (sym e) (record {
     here = one-here (values K) rows n s r via l m ∙ ap (λ y. Some y) worth;
     only = λ v x h.
-      let p = one-only (values K) rows n s r via l m v x h in
-      (p .0, p .1 ∙ worth);
+        let p = one-only (values K) rows n s r via l m v x h in
+        (p .0, p .1 ∙ worth);
     weight = λ v w h. omega (arith, one-only (weights K) rows n s r via l m v w h .1, heavy);
   })
 
   pub everywhere : (rows : List R) (seen : List Bool) → seen ≡ replicate (length rows) true → ((v : ℕ) → v < length rows → nth rows v ≡ Some r) → (via : List Step)
-    → Everywhere K (record { rows = rows; seen = seen; via = via })
+      → Everywhere K (record { rows = rows; seen = seen; via = via })
   everywhere rows seen e full via = subst (λ bs. Everywhere K (record { rows = rows; seen = bs; via = via })) (sym e) (record {
     each = λ v l. all-here (values K) rows r via full v l ∙ ap (λ y. Some y) worth;
     only = λ v x h.
-      let p = all-only (values K) rows r via full v x h in
-      (p .0, p .1 ∙ worth);
+        let p = all-only (values K) rows r via full v x h in
+        (p .0, p .1 ∙ worth);
     weight = λ v w h. omega (arith, all-only (weights K) rows r via full v w h .1, heavy);
   })

@@ -35,8 +35,12 @@ pub way-unknown : {C : Type 0} (o : Option (Way C)) (w : Way C) → None ≡ end
 way-unknown None w p q = let z : _≡_ {A = ℕ} 0 1 = cc in omega arith
 way-unknown (Some w′) w p q = let z : _≡_ {A = ℕ} 0 1 = cc in omega arith
 
-pub same-limit : {C : Type 0} {o : Option (Way C)} {w w′ : Way C} → o ≡ Some w → o ≡ Some w′ → w .limit ≡ w′ .limit
-same-limit {o} {w} {w′} p q = let e : w ≡ w′ = cc in ap (λ y. y .limit) e
+pub known-limit : {C : Type 0} (o : Option (Way C)) (w : Way C) (e : Ends) → o ≡ Some w → Some e ≡ ends-of o → w .limit ≡ e .limit
+known-limit None w e p q = let z : _≡_ {A = ℕ} 0 1 = cc in absurd (omega arith)
+known-limit (Some w′) w e p q =
+    let a : w′ ≡ w = cc in
+    let b : e ≡ record { tail = w′ .tail; head = w′ .head; limit = w′ .limit } = cc in
+    sym (ap (λ y. y .limit) b ∙ ap (λ y. y .limit) a)
 
 module _ {C R : Type 0} (K : Kind C R) (net : Net C) (loads : List ℕ) where
   -- what a step ahead along way k says

@@ -18,6 +18,9 @@ pub record Work (R : Type 0) : Type 0 where
   pub seen : List Bool
   pub via : List Step
 
+abbrev pub tables : {R : Type 0} → List R → List Bool → List Step → Work R
+tables rows seen via = record { rows = rows; seen = seen; via = via }
+
 -- the three tables are equally long
 pub record Level {R : Type 0} (t : Work R) : Type 0 where
   pub seen : length (t .seen) ≡ length (t .rows)

@@ -7,6 +7,7 @@ use Prim.Native.Nat.{ℕ, _+_, _*_, _≤_, _<_}
 use lib.ListN.{length}
 use Rattle.std.specs.Finite.{nth}
 use Rattle.std.specs.declared.option.Option.the-variants.{Some}
+use Rattle.std.specs.shelf.Lists.{All}
 use Rattle.costs.specs.Kind.{Kind}
 use Rattle.networks.specs.Net.{Net}
 use Rattle.plan.specs.declared.step.Step.{Step}
@@ -26,7 +27,7 @@ module _ {C R : Type 0} (K : Kind C R) (net : Net C) (loads : List ℕ) where
     pub from : entry K t u ≡ Some x
     pub leads : Leads K net loads 1 u steps met v c
 
-  -- y is an entry of t and the cost of a walk from there to v
+  -- y is an entry of t and the cost of a walk from there to v, along places that are on the tables
   pub record Walked (t : Work R) (v : ℕ) (y : K .group .Carrier) : Type 0 where
     pub place : ℕ
     pub value : K .group .Carrier
@@ -34,6 +35,8 @@ module _ {C R : Type 0} (K : Kind C R) (net : Net C) (loads : List ℕ) where
     pub cost : K .group .Carrier
     pub walk : Walk t place value steps v cost
     pub sum : y ≡ K .group .plus value cost
+    pub start : place < length (t .rows)
+    pub within : All (λ w. w < length (t .rows)) (walk .met)
 
   -- some entry is less than what any walk of fewer than n steps gives
   pub record Fell (t t′ : Work R) (n : ℕ) : Type 0 where

@@ -5,7 +5,7 @@ ghost use lib.ListN.{length};
 ghost use Rattle.std.specs.Orderings.{When};
 ghost use Rattle.std.specs.declared.option.Option.the-variants.{Some, None};
 ghost use Rattle.costs.specs.Kind.{heaviest, values, weights};
-ghost use Rattle.plan.specs.Entries.{Level, Most, Better, noted};
+ghost use Rattle.plan.specs.Entries.{Level, Most, Better, noted, tables};
 ghost use Rattle.plan.specs.Sweeps.{Swept, One};
 use super::step::Step;
 use costs::Cost;
@@ -38,12 +38,12 @@ pub(crate) fn relax<C: Cost>(
     cost: C,
 ) -> bool
     requires within { ⌜ from < length (now rows) ⌝ ∗ ⌜ to < length (now rows) ⌝ }
-    requires level { ⌜ Level (record { rows = now rows; seen = now seen; via = now via }) ⌝ }
-    requires room { ⌜ ((w : ℕ) → noted (weights (C·Cost .kind)) (record { rows = now rows; seen = now seen; via = now via }) from ≡ Some w →
+    requires level { ⌜ Level (tables (now rows) (now seen) (now via)) ⌝ }
+    requires room { ⌜ ((w : ℕ) → noted (weights (C·Cost .kind)) (tables (now rows) (now seen) (now via)) from ≡ Some w →
         w + C·Cost .kind .weighs cost ≤ heaviest) ⌝ }
     ensures { λ r. ⌜ Swept (C·Cost .kind) (One (C·Cost .kind) step from to (C·Cost .kind .value cost)) (One (C·Cost .kind) step from to (C·Cost .kind .value cost)) (C·Cost .kind .weighs cost)
-        (record { rows = now (rows .entry); seen = now (seen .entry); via = now (via .entry) })
-        (record { rows = now (rows .exit); seen = now (seen .exit); via = now (via .exit) }) r ⌝ }
+        (tables (now (rows .entry)) (now (seen .entry)) (now (via .entry)))
+        (tables (now (rows .exit)) (now (seen .exit)) (now (via .exit))) r ⌝ }
 {
     if !seen[from] {
         return false;

@@ -1,10 +1,7 @@
-ghost use mathlib.Core.Path.{_≡_};
-ghost use Prim.Native.Nat.{ℕ, _+_, _-_, _*_, _≤_, _<_};
+ghost use Prim.Native.Nat.{_*_, _≤_, _<_};
 ghost use lib.ListN.{length};
-ghost use Rattle.std.specs.declared.option.Option.the-variants.{Some};
-ghost use Rattle.costs.specs.Kind.{heaviest, weights};
 ghost use Rattle.plan.specs.declared.step.Step.the-variants.{Ahead, Back};
-ghost use Rattle.plan.specs.Entries.{Level, Under, Fits};
+ghost use Rattle.plan.specs.Entries.{Level, Under, Fits, tables};
 ghost use Rattle.plan.specs.Sweeps.{Swept, Left, By};
 use super::relax::relax;
 use super::step::Step;
@@ -21,14 +18,14 @@ fn ahead<N: Network>(
     via: &mut [Step],
 ) -> bool
     requires loaded { ⌜ k < length (now loads) ⌝ }
-    requires level { ⌜ Level (record { rows = now rows; seen = now seen; via = now via }) ⌝ }
+    requires level { ⌜ Level (tables (now rows) (now seen) (now via)) ⌝ }
     requires fit { ⌜ Fits (Cost·Cost .kind) (length (now rows)) (N·Network .means (now net) .ways) ⌝ }
-    requires room { ⌜ Under (Cost·Cost .kind) (record { rows = now rows; seen = now seen; via = now via }) 3999999999999000000 ⌝ }
+    requires room { ⌜ Under (Cost·Cost .kind) (tables (now rows) (now seen) (now via)) 3999999999999000000 ⌝ }
     ensures { λ r. ⌜ Swept (Cost·Cost .kind)
         (By (Cost·Cost .kind) (N·Network .means (now (net .entry))) (now (loads .entry)) (Ahead k))
         (By (Cost·Cost .kind) (N·Network .means (now (net .entry))) (now (loads .entry)) (Ahead k)) 1000000
-        (record { rows = now (rows .entry); seen = now (seen .entry); via = now (via .entry) })
-        (record { rows = now (rows .exit); seen = now (seen .exit); via = now (via .exit) }) r ⌝ }
+        (tables (now (rows .entry)) (now (seen .entry)) (now (via .entry)))
+        (tables (now (rows .exit)) (now (seen .exit)) (now (via .exit))) r ⌝ }
 {
     let Some(ends) = net.way(k) else {
         return false;
@@ -52,14 +49,14 @@ fn back<N: Network>(
     via: &mut [Step],
 ) -> bool
     requires loaded { ⌜ k < length (now loads) ⌝ }
-    requires level { ⌜ Level (record { rows = now rows; seen = now seen; via = now via }) ⌝ }
+    requires level { ⌜ Level (tables (now rows) (now seen) (now via)) ⌝ }
     requires fit { ⌜ Fits (Cost·Cost .kind) (length (now rows)) (N·Network .means (now net) .ways) ⌝ }
-    requires room { ⌜ Under (Cost·Cost .kind) (record { rows = now rows; seen = now seen; via = now via }) 3999999999999000000 ⌝ }
+    requires room { ⌜ Under (Cost·Cost .kind) (tables (now rows) (now seen) (now via)) 3999999999999000000 ⌝ }
     ensures { λ r. ⌜ Swept (Cost·Cost .kind)
         (By (Cost·Cost .kind) (N·Network .means (now (net .entry))) (now (loads .entry)) (Back k))
         (By (Cost·Cost .kind) (N·Network .means (now (net .entry))) (now (loads .entry)) (Back k)) 1000000
-        (record { rows = now (rows .entry); seen = now (seen .entry); via = now (via .entry) })
-        (record { rows = now (rows .exit); seen = now (seen .exit); via = now (via .exit) }) r ⌝ }
+        (tables (now (rows .entry)) (now (seen .entry)) (now (via .entry)))
+        (tables (now (rows .exit)) (now (seen .exit)) (now (via .exit))) r ⌝ }
 {
     let Some(ends) = net.way(k) else {
         return false;
@@ -90,15 +87,15 @@ pub(crate) fn scan<N: Network>(
     via: &mut [Step],
 ) -> bool
     requires loaded { ⌜ length (N·Network .means (now net) .ways) ≤ length (now loads) ⌝ }
-    requires level { ⌜ Level (record { rows = now rows; seen = now seen; via = now via }) ⌝ }
+    requires level { ⌜ Level (tables (now rows) (now seen) (now via)) ⌝ }
     requires fit { ⌜ Fits (Cost·Cost .kind) (length (now rows)) (N·Network .means (now net) .ways) ⌝ }
     requires few { ⌜ length (N·Network .means (now net) .ways) ≤ 3000 ⌝ }
-    requires room { ⌜ Under (Cost·Cost .kind) (record { rows = now rows; seen = now seen; via = now via }) 3500000000000000000 ⌝ }
+    requires room { ⌜ Under (Cost·Cost .kind) (tables (now rows) (now seen) (now via)) 3500000000000000000 ⌝ }
     ensures { λ r. ⌜ Swept (Cost·Cost .kind)
         (Left (Cost·Cost .kind) (N·Network .means (now (net .entry))) (now (loads .entry)))
         (Left (Cost·Cost .kind) (N·Network .means (now (net .entry))) (now (loads .entry))) (2000000 * length (N·Network .means (now (net .entry)) .ways))
-        (record { rows = now (rows .entry); seen = now (seen .entry); via = now (via .entry) })
-        (record { rows = now (rows .exit); seen = now (seen .exit); via = now (via .exit) }) r ⌝ }
+        (tables (now (rows .entry)) (now (seen .entry)) (now (via .entry)))
+        (tables (now (rows .exit)) (now (seen .exit)) (now (via .exit))) r ⌝ }
 {
     let mut changed = false;
     for k in 0..net.ways() {

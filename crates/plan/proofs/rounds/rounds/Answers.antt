@@ -1,7 +1,7 @@
 use mathlib.Core.Path.{_≡_, sym, subst}
 use native.Mathlib.Omega.{arith}
 use native.Mathlib.Nat.{mul-le-mul-right}
-use Prim.Native.Nat.{ℕ, _*_, _+_, _≤_, _<_}
+use Prim.Native.Nat.{_*_, _≤_}
 use lib.ListN.{length}
 use Rattle.plan.specs.Entries.{Work, Fits}
 use Rattle.plan.proofs.Running.{Ran, ran-none, ran-more, rounds-end, rounds-early}
@@ -37,7 +37,7 @@ returns-then-not-scan g c =
     (record { rows = c .args .rows .now; seen = c .args .seen .now; via = c .args .via .now })
     (record { rows = c .loop-i .rows; seen = c .loop-i .seen; via = c .loop-i .via })
     (record { rows = c .scan .last .rows; seen = c .scan .last .seen; via = c .scan .last .via })
-    (c .loop-i-test .taken) (c .loop-i .inv) (c .if-not-scan .ensures tt)
+    (c .loop-i-test .taken) (c .pre .fit) (c .loop-i .inv) (c .if-not-scan .ensures tt)
 
 pub loop-i-again : need.loop-i-again
 loop-i-again g c =
@@ -54,4 +54,4 @@ returns g c =
     let before : Work _ = record { rows = c .args .rows .now; seen = c .args .seen .now; via = c .args .via .now } in
     let after : Work _ = record { rows = c .loop-i .rows; seen = c .loop-i .seen; via = c .loop-i .via } in
     let all : c .loop-i .-i ≡ c .args .limit = omega (arith, c .loop-i-test .left, c .loop-i .kept .-i-end) in
-    rounds-end K net (c .args .loads .now) (c .args .limit) before after (subst (λ n. Ran K net (c .args .loads .now) n before after) all (c .loop-i .inv))
+    rounds-end K net (c .args .loads .now) (c .args .limit) before after (c .pre .fit) (subst (λ n. Ran K net (c .args .loads .now) n before after) all (c .loop-i .inv))

@@ -1,8 +1,7 @@
-use mathlib.Core.Path.{_≡_, ap}
 use native.Mathlib.Omega.{arith}
 use Rattle.plan.specs.Entries.{Work}
 use Rattle.plan.proofs.Sweeping.{swept-within}
-use Rattle.plan.proofs.Trying.{way-known, way-unknown, same-limit, none-ahead, by-ahead}
+use Rattle.plan.proofs.Trying.{way-known, way-unknown, known-limit, none-ahead, by-ahead}
 use Rattle.plan.proofs.scan.ahead.Needs as need
 
 pub returns-in-rest : need.returns-in-rest
@@ -14,9 +13,8 @@ returns-in-rest g c =
 pub returns-then-loads-k : need.returns-then-loads-k
 returns-then-loads-k g c =
     let t : Work _ = record { rows = c .args .rows .now; seen = c .args .seen .now; via = c .args .via .now } in
-    let known = way-known _ (c .in-Some .ends) (c .in-Some-cost .cost) (c .in-Some .ensures tt) (c .in-Some-cost .ensures tt) in
     none-ahead (g .Cost·Cost .kind) (g .N·Network .means (c .args .net .now)) (c .args .loads .now) (c .args .k) t
-    (λ u v x f. omega (arith, f .space, same-limit (f .known) known, c .if-loads-k .taken))
+    (λ u v x f. omega (arith, f .space, known-limit _ (f .way) (c .in-Some .ends) (f .known) (c .in-Some .ensures tt), c .if-loads-k .taken))
 
 pub relax-requires : need.relax-requires
 relax-requires g c κs =

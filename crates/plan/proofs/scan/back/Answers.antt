@@ -1,4 +1,3 @@
-use mathlib.Core.Path.{_≡_, ap}
 use native.Mathlib.Omega.{arith}
 use Rattle.plan.specs.Entries.{Work}
 use Rattle.plan.proofs.Sweeping.{swept-within}

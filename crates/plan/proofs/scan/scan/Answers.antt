@@ -1,6 +1,6 @@
 use mathlib.Core.Path.{_≡_, sym, subst, _∙_}
 use native.Mathlib.Omega.{arith}
-use Prim.Native.Nat.{ℕ, _*_, _+_, _≤_, _<_}
+use Prim.Native.Nat.{_*_, _+_}
 use lib.ListN.{length}
 use Rattle.plan.specs.Entries.{Work, Fits}
 use Rattle.plan.proofs.Sweeping.{swept-none, swept-within}

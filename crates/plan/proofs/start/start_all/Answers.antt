@@ -1,9 +1,9 @@
-use mathlib.Core.Path.{_≡_, sym, ap, _∙_}
+use mathlib.Core.Path.{sym, ap, _∙_}
 use mathlib.Core.Bool.{true}
 use mathlib.Core.Logic.{_≢_}
 use native.Mathlib.Omega.{arith}
-use borrow.Author.Count.{below-none, below-more}
-use lib.ListN.{length, replicate}
+use borrow.Author.Count.{below-more}
+use lib.ListN.{replicate}
 use Rattle.plan.proofs.Noting.{nth-set-same, nth-set-other}
 use Rattle.plan.proofs.Starting.{everywhere}
 use Rattle.plan.proofs.start.start_all.Needs as need
@@ -15,8 +15,8 @@ pub loop-row-again : need.loop-row-again
 loop-row-again g c =
     below-more _ _
     (λ v l.
-      let ne : v ≢ c .loop-row .row-index = omega arith in
-      nth-set-other (c .loop-row .rows) (c .loop-row .row-index) v (c .row-zero .result) ne ∙ c .loop-row .inv v l)
+    let ne : v ≢ c .loop-row .row-index = omega arith in
+    nth-set-other (c .loop-row .rows) (c .loop-row .row-index) v (c .row-zero .result) ne ∙ c .loop-row .inv v l)
     (nth-set-same (c .loop-row .rows) (c .loop-row .row-index) (c .row-zero .result) (omega (arith, c .loop-row-test .taken, c .loop-row .kept .rows)))
 
 pub returns : need.returns

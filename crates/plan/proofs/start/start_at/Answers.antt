@@ -1,4 +1,3 @@
-use mathlib.Core.Path.{_≡_, sym}
 use native.Mathlib.Omega.{arith}
 use Rattle.plan.proofs.Starting.{alone}
 use Rattle.plan.proofs.start.start_at.Needs as need
