@@ -6,3 +6,4 @@ pub mod Walking
 pub mod Tracing
 pub mod Running
 pub mod Starting
+pub mod Searching

@@ -14,7 +14,7 @@ use Rattle.std.proofs.shelf.Tests.{cases-eq}
 use Rattle.costs.specs.Kind.{Kind, values, weights}
 use Rattle.plan.specs.declared.step.Step.{Step}
 use Rattle.plan.specs.Entries.{Work, noted}
-use Rattle.plan.specs.Starts.{Alone, Everywhere}
+use Rattle.plan.specs.Starts.{Zeros}
 use Rattle.plan.proofs.Noting.{nth-set-same, noted-unseen, noted-within}
 
 unmarked : (n v : ℕ) → getD (replicate n false) v false ≡ false
@@ -68,21 +68,24 @@ module _ {C R : Type 0} (K : Kind C R) (z : C) (r : R) (zero-is : K .value z ≡
   heavy = ap (K .weighs) reads ∙ K .zero-weighs z zero-is
 
   pub alone : (rows : List R) (seen : List Bool) (n s : ℕ) → seen ≡ replicate n false → s < length rows → s < n → (via : List Step)
-      → Alone K (record { rows = set rows s r; seen = set seen s true; via = via }) s
-  alone rows seen n s e l m via = subst (λ bs. Alone K (record { rows = set rows s r; seen = set bs s true; via = via }) s) (sym e) (record {
-    here = one-here (values K) rows n s r via l m ∙ ap (λ y. Some y) worth;
+      → Zeros K (λ v. v ≡ s) (record { rows = set rows s r; seen = set seen s true; via = via })
+  alone rows seen n s e l m via = subst (λ bs. Zeros K (λ v. v ≡ s) (record { rows = set rows s r; seen = set bs s true; via = via })) (sym e) (record {
+    each = λ v q. ap (noted (values K) (one (values K) rows n s r via l m)) q ∙ one-here (values K) rows n s r via l m ∙ ap (λ y. Some y) worth;
     only = λ v x h.
         let p = one-only (values K) rows n s r via l m v x h in
         (p .0, p .1 ∙ worth);
     weight = λ v w h. omega (arith, one-only (weights K) rows n s r via l m v w h .1, heavy);
   })
 
-  pub everywhere : (rows : List R) (seen : List Bool) → seen ≡ replicate (length rows) true → ((v : ℕ) → v < length rows → nth rows v ≡ Some r) → (via : List Step)
-      → Everywhere K (record { rows = rows; seen = seen; via = via })
-  everywhere rows seen e full via = subst (λ bs. Everywhere K (record { rows = rows; seen = bs; via = via })) (sym e) (record {
-    each = λ v l. all-here (values K) rows r via full v l ∙ ap (λ y. Some y) worth;
-    only = λ v x h.
-        let p = all-only (values K) rows r via full v x h in
-        (p .0, p .1 ∙ worth);
-    weight = λ v w h. omega (arith, all-only (weights K) rows r via full v w h .1, heavy);
-  })
+  pub everywhere : (rows : List R) (seen : List Bool) (n : ℕ) → length rows ≡ n → seen ≡ replicate n true → ((v : ℕ) → v < length rows → nth rows v ≡ Some r) → (via : List Step)
+      → Zeros K (λ v. v < n) (record { rows = rows; seen = seen; via = via })
+  everywhere rows seen n long e full via =
+      let same : seen ≡ replicate (length rows) true = e ∙ ap (λ k. replicate k true) (sym long) in
+      subst (λ k. Zeros K (λ v. v < k) (record { rows = rows; seen = seen; via = via })) long
+      (subst (λ bs. Zeros K (λ v. v < length rows) (record { rows = rows; seen = bs; via = via })) (sym same) (record {
+        each = λ v l. all-here (values K) rows r via full v l ∙ ap (λ y. Some y) worth;
+        only = λ v x h.
+            let p = all-only (values K) rows r via full v x h in
+            (p .0, p .1 ∙ worth);
+        weight = λ v w h. omega (arith, all-only (weights K) rows r via full v w h .1, heavy);
+      }))

@@ -5,6 +5,7 @@ pub mod Entries
 pub mod Sweeps
 pub mod Rounds
 pub mod Starts
+pub mod Searches
 pub mod State
 pub mod Checks
 pub mod Rules

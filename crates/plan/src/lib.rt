@@ -2,6 +2,7 @@ mod calls;
 mod relax;
 mod rounds;
 mod scan;
+mod search;
 mod start;
 mod step;
 

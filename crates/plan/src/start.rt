@@ -4,14 +4,14 @@ ghost use Prim.Native.Nat.{_<_};
 ghost use lib.ListN.{length};
 ghost use Rattle.plan.specs.declared.step.Step.{Step};
 ghost use Rattle.plan.specs.Entries.{tables};
-ghost use Rattle.plan.specs.Starts.{Alone, Everywhere};
+ghost use Rattle.plan.specs.Starts.{Zeros};
 use costs::Cost;
 
 // Marks `from` alone, with zero in its row.
 pub(crate) fn start_at<C: Cost>(rows: &mut [C::Row], seen: &mut [bool], from: usize)
     requires within { ⌜ from < length (now rows) ⌝ }
     requires level { ⌜ length (now seen) ≡ length (now rows) ⌝ }
-    ensures { λ _. ⌜ ((via : List Step) → Alone (C·Cost .kind) (tables (now (rows .exit)) (now (seen .exit)) via) from) ⌝ }
+    ensures { λ _. ⌜ ((via : List Step) → Zeros (C·Cost .kind) (λ v. v ≡ from) (tables (now (rows .exit)) (now (seen .exit)) via)) ⌝ }
 {
     seen.fill(false);
     seen[from] = true;
@@ -21,7 +21,7 @@ pub(crate) fn start_at<C: Cost>(rows: &mut [C::Row], seen: &mut [bool], from: us
 // Marks every place, with zero in its row.
 pub(crate) fn start_all<C: Cost>(rows: &mut [C::Row], seen: &mut [bool])
     requires level { ⌜ length (now seen) ≡ length (now rows) ⌝ }
-    ensures { λ _. ⌜ ((via : List Step) → Everywhere (C·Cost .kind) (tables (now (rows .exit)) (now (seen .exit)) via)) ⌝ }
+    ensures { λ _. ⌜ ((via : List Step) → Zeros (C·Cost .kind) (λ v. v < length (now (rows .entry))) (tables (now (rows .exit)) (now (seen .exit)) via)) ⌝ }
 {
     seen.fill(true);
     let zero = C::zero().row();

@@ -1,9 +1,9 @@
-use mathlib.Core.Path.{sym, ap, _∙_}
+use mathlib.Core.Path.{ap, _∙_}
 use mathlib.Core.Bool.{true}
 use mathlib.Core.Logic.{_≢_}
 use native.Mathlib.Omega.{arith}
 use borrow.Author.Count.{below-more}
-use lib.ListN.{replicate}
+use lib.ListN.{length, replicate}
 use Rattle.plan.proofs.Noting.{nth-set-same, nth-set-other}
 use Rattle.plan.proofs.Starting.{everywhere}
 use Rattle.plan.proofs.start.start_all.Needs as need
@@ -21,6 +21,6 @@ loop-row-again g c =
 
 pub returns : need.returns
 returns g c =
-    everywhere (g .C·Cost .kind) (c .zero .result) (c .row-zero .result) (c .zero .ensures) (c .row-zero .ensures) (c .loop-row .rows) (c .fill .last .self)
-    (c .fill .ensures .after (λ y e. e) ∙ ap (λ n. replicate n true) (c .pre .level ∙ sym (c .loop-row .kept .rows)))
+    everywhere (g .C·Cost .kind) (c .zero .result) (c .row-zero .result) (c .zero .ensures) (c .row-zero .ensures) (c .loop-row .rows) (c .fill .last .self) (length (c .args .rows .now))
+    (c .loop-row .kept .rows) (c .fill .ensures .after (λ y e. e) ∙ ap (λ n. replicate n true) (c .pre .level))
     (λ v l. c .loop-row .inv v (omega (arith, l, c .loop-row-test .left, c .loop-row .kept .rows)))
