@@ -24,3 +24,12 @@ pub mod Decide
 pub mod Answered
 pub mod Determined
 pub mod Checked
+pub mod Noting
+pub mod Sweeping
+pub mod Relaxing
+pub mod Trying
+pub mod Walking
+pub mod Tracing
+pub mod Running
+pub mod Starting
+pub mod Searching

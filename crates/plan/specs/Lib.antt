@@ -1,6 +1,11 @@
 -- What the contracts of this crate cite.
 pub mod Loads
 pub mod Steps
+pub mod Entries
+pub mod Sweeps
+pub mod Rounds
+pub mod Starts
+pub mod Searches
 pub mod State
 pub mod Checks
 pub mod Rules

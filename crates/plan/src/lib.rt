@@ -1,6 +1,11 @@
 mod calls;
 mod checks;
 mod laws;
+mod relax;
+mod rounds;
+mod scan;
+mod search;
+mod start;
 mod step;
 
 pub use calls::Answer;
