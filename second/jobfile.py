@@ -344,19 +344,19 @@ def check(files):
     return 1 if other else 0
 
 
-def main(words):
+def main(arguments):
     sets = {"examples": examples, "show": show, "cases": file_cases}
-    if len(words) == 2 and words[0] == "list" and words[1] in (JOB, GRID):
-        sys.stdout.write(listing(words[1], sys.stdin.buffer.read()))
-        return 0
-    if len(words) == 1 and words[0] in sets:
-        write(sets[words[0]]())
-        return 0
-    if len(words) == 1 and words[0] in ("all", "check"):
-        files = {**examples(), **show(), **file_cases()}
-        return check(files) if words[0] == "check" else write(files) or 0
-    sys.stderr.write(__doc__)
-    return 2
+    sets["all"] = lambda: {**examples(), **show(), **file_cases()}
+    if arguments in (["list", JOB], ["list", GRID]):
+        sys.stdout.write(listing(arguments[1], sys.stdin.buffer.read()))
+    elif arguments == ["check"]:
+        return check(sets["all"]())
+    elif len(arguments) == 1 and arguments[0] in sets:
+        write(sets[arguments[0]]())
+    else:
+        sys.stderr.write(__doc__)
+        return 2
+    return 0
 
 
 if __name__ == "__main__":
