@@ -305,10 +305,14 @@ def case_bytes(form, file):
 
 
 def case_text(number, form, file):
-    """The listing, then how a copy into a table of the file's length ends, and one into a table that is a byte shorter."""
-    text = f"case {number}\n" + listing(form, file)
+    """The listing, then how a check ends, a copy into a table of the file's length, and one into a table that is a byte shorter."""
+    lines = listing(form, file)
+    text = f"case {number}\n" + lines
     fault = first_fault(form, file)
-    text += f"copied {len(file)}\n" if fault is None else "refused {} at {}\n".format(*fault)
+    if fault is None:
+        text += f"records {lines.count(chr(10))}\ncopied {len(file)}\n"
+    else:
+        text += "fault {0} at {1}\nrefused {0} at {1}\n".format(*fault)
     if file:
         text += f"short {SHORT_TABLE}\n"
     return text

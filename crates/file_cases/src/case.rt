@@ -1,10 +1,10 @@
+// One case of the input: its form, its file and what stands behind it.
 ghost use Prim.Native.Nat.{_<_};
 ghost use lib.ListN.{length};
 ghost use Rattle.std.specs.Vec.{made};
 use jobs::Form;
 use std::error::AnyError;
 
-// One case and what stands behind it.
 #[derive(Clone, Copy)]
 pub struct Case<'a> {
     pub form: Form,

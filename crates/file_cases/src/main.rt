@@ -1,22 +1,24 @@
-// Lists and copies many files from standard input: a case is a byte of form (0 job, 1 grid), a length in four bytes and the file.
+// Lists, checks and copies many files from standard input: a case is a byte of form (0 job, 1 grid), a length in four bytes and the file.
 mod case;
-mod copies;
+mod ends;
 #[cfg(test)]
 mod tests;
 
 use case::Case;
 use case::first_case;
-use copies::copied;
-use copies::cut_off;
+use ends::checked;
+use ends::copied;
+use ends::cut_off;
 use jobs::list_file;
 use std::error::AnyError;
 use std::io::Read;
 
 fn show(rt: &LibcRuntime, number: usize, case: Case) -> Result<(), AnyError> {
     let text = list_file(rt.alloc(), case.form, case.file)?;
+    let check = checked(rt.alloc(), case.form, case.file)?;
     let whole = copied(rt.alloc(), case.form, case.file)?;
     let short = cut_off(rt.alloc(), case.form, case.file)?;
-    print!(rt, "case {number}\n{text}{whole}{short}")?;
+    print!(rt, "case {number}\n{text}{check}{whole}{short}")?;
     Ok(())
 }
 

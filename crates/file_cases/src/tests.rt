@@ -1,3 +1,4 @@
+// The writer at the last place where a record fits, one past it, and far past it.
 use jobs::Entry;
 use std::test::*;
 

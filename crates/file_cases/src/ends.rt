@@ -1,10 +1,24 @@
+// What a check and two copies of a file say, in a line each.
 use jobs::Form;
+use jobs::check_file;
 use jobs::copy_file;
 use std::alloc::AllocError;
 use std::alloc::Global;
 
 // What a table holds before anything is written.
 const BLANK: u8 = 165;
+
+// How a check ends: with the number of records, or with the first fault.
+pub fn checked(heap: Global, form: Form, file: &[u8]) -> Result<String, AllocError> {
+    match check_file(form, file) {
+        Ok(n) => format!(heap, "records {n}\n"),
+        Err(fault) => {
+            let number = fault.refusal.number();
+            let offset = fault.offset;
+            format!(heap, "fault {number} at {offset}\n")
+        }
+    }
+}
 
 // How a copy into a table of the file's length ends: the same bytes, or refused with the table as it was.
 pub fn copied(heap: Global, form: Form, file: &[u8]) -> Result<String, AllocError> {
