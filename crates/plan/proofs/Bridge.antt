@@ -5,7 +5,7 @@ use mathlib.Core.Bool.{cond}
 use mathlib.Core.List.{List, [], _∷_, map}
 use Prim.Native.Nat.{ℕ, zero, suc, _+_, _-_, _≤_, _<_}
 use native.Mathlib.Omega.{arith}
-use lib.ListN.{length, getD, set}
+use lib.ListN.{length, getD, set, length-map}
 use lib.Dec.{eqb}
 use lib.IntN.{pos, _-ℤ_}
 use Rattle.std.specs.Finite.{nth}
@@ -13,12 +13,13 @@ use Rattle.std.specs.shelf.Lists.{All}
 use Rattle.std.specs.declared.option.Option.the-variants.{Some}
 use Rattle.costs.specs.Kind.{Kind}
 use Rattle.networks.specs.Net.{Way, Net}
-use Rattle.plan.specs.Loads.{Within, costs, out, into, leaving, Keeps}
+use Rattle.plan.specs.Loads.{costs, out, into, leaving, Keeps}
 use Rattle.plan.specs.declared.step.Step.{Step}
 use Rattle.plan.specs.declared.step.Step.the-variants.{Ahead, Back}
 use Rattle.plan.specs.Steps.{Apart, Gives, forth, behind, Leads, there, then, Route, Losing}
 use Rattle.plan.specs.Rules.{along}
 use Rattle.plan.specs.Standing.{Inside, Potential}
+use Rattle.plan.proofs.Limits.{nth-there, keeps-long, keeps-at, keeps-by}
 use Rattle.plan.proofs.Flow as flow
 use Rattle.plan.proofs.Flow.{total, times, Carries, which, from, to, price, price-of, room, way, count, send, Row, Cheap-ring}
 use Rattle.plan.proofs.Sums.{Adds}
@@ -43,28 +44,7 @@ module _ {C R : Type 0} (K : Kind C R) where
   nth-way (x ∷ ws) (suc k) w e = let r = nth-way ws k w e in (r .0, omega arith)
 
   pub way-nth : (ws : List (Way C)) (k : ℕ) → k < length (map way-of ws) → (w : Way C) × (nth ws k ≡ Some w)
-  way-nth [] k l = absurd (omega arith)
-  way-nth (x ∷ ws) zero l = (x, refl)
-  way-nth (x ∷ ws) (suc k) l = way-nth ws k (omega arith)
-
-  pub within-long : (ws : List (Way C)) (f : List ℕ) → Within ws f → length f ≡ length (map way-of ws)
-  within-long [] [] h = refl
-  within-long [] (n ∷ f) h = absurd h
-  within-long (w ∷ ws) [] h = absurd h
-  within-long (w ∷ ws) (n ∷ f) h = ap suc (within-long ws f (h .1))
-
-  pub within-at : (ws : List (Way C)) (f : List ℕ) → Within ws f → (k : ℕ) → k < length (map way-of ws) → getD f k 0 ≤ getD (map way-of ws) k no-way .limit
-  within-at [] f h k l = absurd (omega arith)
-  within-at (w ∷ ws) [] h k l = absurd h
-  within-at (w ∷ ws) (n ∷ f) h zero l = h .0
-  within-at (w ∷ ws) (n ∷ f) h (suc k) l = within-at ws f (h .1) k (omega arith)
-
-  pub at-within : (ws : List (Way C)) (f : List ℕ) → length f ≡ length (map way-of ws) →
-      ((k : ℕ) → k < length (map way-of ws) → getD f k 0 ≤ getD (map way-of ws) k no-way .limit) → Within ws f
-  at-within [] [] e h = tt
-  at-within [] (n ∷ f) e h = absurd (omega arith)
-  at-within (w ∷ ws) [] e h = absurd (omega arith)
-  at-within (w ∷ ws) (n ∷ f) e h = (h 0 (omega arith), at-within ws f (omega arith) (λ k l. h (suc k) (omega arith)))
+  way-nth ws k l = nth-there ws k (let e = length-map ws way-of in omega arith)
 
   pub costs-is : (ws : List (Way C)) (f : List ℕ) → length f ≡ length (map way-of ws) →
       costs K ws f ≡ total (K .group .zero) (K .group .plus) (length (map way-of ws)) (λ k. times (K .group) (getD f k 0) (getD (map way-of ws) k no-way .cost))
@@ -95,10 +75,17 @@ module _ {C R : Type 0} (K : Kind C R) (net : Net C) where
   seen = record { places = net .places; ways = map (way-of K) (net .ways) }
 
   pub keeps-seen : (f : List ℕ) → Keeps net f → flow.Keeps seen f
-  keeps-seen f h = record { whole = within-long K (net .ways) f h; within = within-at K (net .ways) f h }
+  keeps-seen f h = record {
+    whole = keeps-long net f h ∙ sym (length-map (net .ways) (way-of K));
+    within = λ k l.
+        let w = way-nth K (net .ways) k l in
+        subst (λ z. getD f k 0 ≤ z .limit) (sym (nth-way K (net .ways) k (w .0) (w .1) .0)) (keeps-at net f h k (w .0) (w .1));
+  }
 
   pub seen-keeps : (f : List ℕ) → flow.Keeps seen f → Keeps net f
-  seen-keeps f h = at-within K (net .ways) f (h .whole) (h .within)
+  seen-keeps f h =
+      keeps-by net f (h .whole ∙ length-map (net .ways) (way-of K))
+      (λ k w e. let i = nth-way K (net .ways) k w e in subst (λ z. getD f k 0 ≤ z .limit) (i .0) (h .within k (i .1)))
 
   pub joined-seen : Inside net → flow.Joined seen
   joined-seen inside = record { tails = λ k l. at k l .0; heads = λ k l. at k l .1 }

@@ -13,6 +13,7 @@ pub mod Rising
 pub mod Least
 pub mod Cheapest
 pub mod Algebra
+pub mod Limits
 pub mod Bridge
 pub mod Augment
 pub mod Moves
