@@ -7,3 +7,4 @@ pub mod Tracing
 pub mod Running
 pub mod Starting
 pub mod Searching
+pub mod Fronting

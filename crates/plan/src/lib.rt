@@ -1,4 +1,5 @@
 mod calls;
+mod front;
 mod relax;
 mod rounds;
 mod scan;

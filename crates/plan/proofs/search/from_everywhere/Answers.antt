@@ -4,7 +4,7 @@ use Prim.Native.Nat.{_<_}
 use lib.ListN.{length}
 use Rattle.plan.specs.Entries.{tables, Fits}
 use Rattle.plan.proofs.Searching.{searched}
-use Rattle.plan.proofs.search.prices.Needs as need
+use Rattle.plan.proofs.search.from_everywhere.Needs as need
 
 pub rounds-requires : need.rounds-requires
 rounds-requires g c κs =
