@@ -1,3 +1,4 @@
+-- Lemmas that the proofs of this crate share.
 pub mod Noting
 pub mod Sweeping
 pub mod Relaxing

@@ -1,3 +1,4 @@
+-- A search of the first places of the tables leaves the rest.
 use mathlib.Core.Path.{_≡_, sym, subst}
 use Prim.Native.Nat.{ℕ, _-_, _<_}
 use lib.ListN.{length, take}

@@ -1,3 +1,4 @@
+-- A search is a start at every place, and rounds.
 use mathlib.Core.Path.{_≡_, sym, subst}
 use native.Mathlib.Omega.{arith}
 use Prim.Native.Nat.{_<_}
