@@ -25,6 +25,7 @@ pub mod Decide
 pub mod Answered
 pub mod Determined
 pub mod Checked
+-- Lemmas that the proofs of this crate share.
 pub mod Noting
 pub mod Sweeping
 pub mod Relaxing
@@ -34,3 +35,4 @@ pub mod Tracing
 pub mod Running
 pub mod Starting
 pub mod Searching
+pub mod Fronting

@@ -3,7 +3,7 @@ use mathlib.Core.Path.{_≡_}
 use mathlib.Core.Bool.{Bool, true, false, cond}
 use mathlib.Core.List.{List}
 use Prim.Native.Nat.{ℕ, _≤_, _<_}
-use lib.ListN.{length, getD, set}
+use lib.ListN.{length, getD, set, take}
 use Rattle.std.specs.Finite.{nth}
 use Rattle.std.specs.Options.{mapped}
 use Rattle.std.specs.declared.option.Option.{Option}
@@ -25,6 +25,16 @@ tables rows seen via = record { rows = rows; seen = seen; via = via }
 pub record Level {R : Type 0} (t : Work R) : Type 0 where
   pub seen : length (t .seen) ≡ length (t .rows)
   pub via : length (t .via) ≡ length (t .rows)
+
+-- the three tables have n places or more
+pub record Long {R : Type 0} (n : ℕ) (t : Work R) : Type 0 where
+  pub rows : n ≤ length (t .rows)
+  pub seen : n ≤ length (t .seen)
+  pub via : n ≤ length (t .via)
+
+-- the first n places
+abbrev pub front : {R : Type 0} → ℕ → Work R → Work R
+front n t = record { rows = take n (t .rows); seen = take n (t .seen); via = take n (t .via) }
 
 -- place v stands in all three
 pub record Holds {R : Type 0} (t : Work R) (v : ℕ) : Type 0 where

@@ -1,6 +1,7 @@
 mod calls;
 mod checks;
 mod laws;
+mod front;
 mod relax;
 mod rounds;
 mod scan;

@@ -10,8 +10,8 @@ use super::step::Step;
 use costs::Cost;
 use networks::Network;
 
-// Works out what is cheapest from `from` to each place, by at most `limit` scans. True if the last scan changed nothing.
-pub(crate) fn distances<N: Network>(
+// Searches from `from`, by at most `limit` scans. True if the last scan changed nothing.
+pub(crate) fn from_place<N: Network>(
     net: &N,
     loads: &[u32],
     rows: &mut [<N::Cost as Cost>::Row],
@@ -33,8 +33,8 @@ pub(crate) fn distances<N: Network>(
     rounds(net, loads, rows, seen, via, limit)
 }
 
-// Works out what is cheapest from anywhere to each place, by at most `limit` scans. True if the last scan changed nothing.
-pub(crate) fn prices<N: Network>(
+// Searches from every place, by at most `limit` scans. True if the last scan changed nothing.
+pub(crate) fn from_everywhere<N: Network>(
     net: &N,
     loads: &[u32],
     rows: &mut [<N::Cost as Cost>::Row],

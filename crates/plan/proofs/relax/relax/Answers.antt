@@ -1,3 +1,4 @@
+-- One step is relaxed, or nothing is to be gained by it.
 use mathlib.Core.Path.{sym, ap, subst, _∙_}
 use native.Mathlib.Omega.{arith}
 use Rattle.costs.specs.Kind.{values, weights}

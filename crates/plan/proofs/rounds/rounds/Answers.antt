@@ -1,3 +1,4 @@
+-- Rounds are scans in a row, and end where one changes nothing.
 use mathlib.Core.Path.{_≡_, sym, subst}
 use native.Mathlib.Omega.{arith}
 use native.Mathlib.Nat.{mul-le-mul-right}

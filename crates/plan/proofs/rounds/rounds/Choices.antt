@@ -1,3 +1,4 @@
+-- What holds after each scan.
 use Rattle.plan.proofs.Running.{Ran}
 use Rattle.plan.proofs.rounds.rounds.Given as given
 

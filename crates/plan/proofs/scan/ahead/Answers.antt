@@ -1,3 +1,4 @@
+-- The step ahead along a way was tried, or there is none.
 use native.Mathlib.Omega.{arith}
 use Rattle.plan.specs.Entries.{Work}
 use Rattle.plan.proofs.Sweeping.{swept-within}

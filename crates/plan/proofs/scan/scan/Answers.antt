@@ -1,3 +1,4 @@
+-- A scan tries the steps of one way after another.
 use mathlib.Core.Path.{_≡_, sym, subst, _∙_}
 use native.Mathlib.Omega.{arith}
 use Prim.Native.Nat.{_*_, _+_}

@@ -1,3 +1,4 @@
+-- After k ways their steps were tried, and no others.
 use Prim.Native.Nat.{_*_}
 use Rattle.plan.specs.Sweeps.{Swept, Left, Among}
 use Rattle.plan.proofs.scan.scan.Given as given

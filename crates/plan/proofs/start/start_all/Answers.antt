@@ -1,3 +1,4 @@
+-- Every place is marked, with zero.
 use mathlib.Core.Path.{ap, _∙_}
 use mathlib.Core.Bool.{true}
 use mathlib.Core.Logic.{_≢_}

@@ -1,3 +1,4 @@
+-- The rows so far are zero.
 use mathlib.Core.Path.{_≡_}
 use Prim.Native.Nat.{ℕ, _<_}
 use Rattle.std.specs.Finite.{nth}

@@ -1,3 +1,4 @@
+-- One place is marked, with zero.
 use native.Mathlib.Omega.{arith}
 use Rattle.plan.proofs.Starting.{alone}
 use Rattle.plan.proofs.start.start_at.Needs as need

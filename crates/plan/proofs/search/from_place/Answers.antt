@@ -1,9 +1,10 @@
+-- A search is a start at one place, and rounds.
 use mathlib.Core.Path.{_≡_, sym, subst}
 use native.Mathlib.Omega.{arith}
 use lib.ListN.{length}
 use Rattle.plan.specs.Entries.{tables, Fits}
 use Rattle.plan.proofs.Searching.{searched}
-use Rattle.plan.proofs.search.distances.Needs as need
+use Rattle.plan.proofs.search.from_place.Needs as need
 
 pub rounds-requires : need.rounds-requires
 rounds-requires g c κs =

@@ -1,10 +1,11 @@
+-- A search is a start at every place, and rounds.
 use mathlib.Core.Path.{_≡_, sym, subst}
 use native.Mathlib.Omega.{arith}
 use Prim.Native.Nat.{_<_}
 use lib.ListN.{length}
 use Rattle.plan.specs.Entries.{tables, Fits}
 use Rattle.plan.proofs.Searching.{searched}
-use Rattle.plan.proofs.search.prices.Needs as need
+use Rattle.plan.proofs.search.from_everywhere.Needs as need
 
 pub rounds-requires : need.rounds-requires
 rounds-requires g c κs =
