@@ -9,6 +9,8 @@ mod scan;
 mod search;
 mod start;
 mod step;
+mod table;
+mod tables;
 
 pub use calls::Answer;
 pub use calls::Call;
