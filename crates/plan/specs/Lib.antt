@@ -10,6 +10,7 @@ pub mod Picks
 pub mod State
 pub mod Checks
 pub mod Rules
+pub mod Tables
 pub mod Standing
 pub mod Law
 pub mod Determined

@@ -1,3 +1,4 @@
+mod booking;
 mod calls;
 mod checks;
 mod front;

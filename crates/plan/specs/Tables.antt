@@ -1,0 +1,38 @@
+-- What a plan's table holds, and what its own calls do to it.
+use mathlib.Core.Path.{_≡_}
+use mathlib.Core.Bool.{true, _||_}
+use mathlib.Core.List.{List}
+use Prim.Native.Nat.{ℕ}
+use lib.Dec.{eqb, ltb}
+use lib.IntN.{ℤ, pos, _+ℤ_, _-ℤ_}
+use lib.ListN.{length, getD}
+use Rattle.std.specs.Of.Vec.{vec-items}
+use Rattle.std.specs.declared.option.Option.{Option}
+use Rattle.std.specs.declared.option.Option.the-variants.{Some, None}
+use Rattle.std.specs.declared.result.Result.{Result}
+use Rattle.std.specs.declared.result.Result.the-variants.{Ok, Err}
+use Rattle.networks.specs.declared.refusal.Refusal.{Refusal}
+use Rattle.networks.specs.declared.refusal.Refusal.the-variants.{NoPlace, SamePlace, BadAmount, RestBound}
+use Rattle.plan.specs.declared.table.Table.{Table}
+use Rattle.plan.specs.Checks.{or-else, when, outside, beyond}
+use Rattle.plan.specs.Rules.{move}
+use Rattle.plan.specs.State.{State}
+
+-- the state of an open plan with this table
+abbrev pub state-of : Table → State
+state-of t = record { open? = true; loads = vec-items (t .loads); rests = vec-items (t .rests); count = t .count }
+
+-- what is wrong with a booking, of the rests alone
+abbrev pub booking-fault : List ℤ → ℕ → ℕ → ℕ → Option Refusal
+booking-fault rests from to amount =
+    or-else (when (outside (length rests) from || outside (length rests) to) NoPlace)
+    (or-else (when (eqb from to) SamePlace)
+    (or-else (when (eqb amount 0 || ltb 1000000 amount) BadAmount)
+    (when (beyond (getD rests from (pos 0) +ℤ pos amount) || beyond (getD rests to (pos 0) -ℤ pos amount)) RestBound)))
+
+-- a booking: the first fault, and nothing is altered; or the rests move
+abbrev pub Books : Table → ℕ → ℕ → ℕ → Result (Unit {0}) Refusal → Table → Type 0
+Books t from to amount (Ok u) t′ =
+    (booking-fault (vec-items (t .rests)) from to amount ≡ None) × (vec-items (t′ .rests) ≡ move (vec-items (t .rests)) from to amount)
+    × (vec-items (t′ .loads) ≡ vec-items (t .loads)) × (t′ .count ≡ t .count)
+Books t from to amount (Err e) t′ = (booking-fault (vec-items (t .rests)) from to amount ≡ Some e) × (t′ ≡ t)
