@@ -5,8 +5,8 @@ use mathlib.Core.List.{List}
 use Prim.Native.Nat.{ℕ}
 use lib.Dec.{eqb, ltb}
 use lib.IntN.{ℤ, pos, _+ℤ_, _-ℤ_}
-use lib.ListN.{length, getD}
-use Rattle.std.specs.Of.Vec.{vec-items}
+use lib.ListN.{length, getD, replicate}
+use Rattle.std.specs.Of.Vec.{vec-items, vec-len}
 use Rattle.std.specs.declared.option.Option.{Option}
 use Rattle.std.specs.declared.option.Option.the-variants.{Some, None}
 use Rattle.std.specs.declared.result.Result.{Result}
@@ -36,3 +36,11 @@ Books t from to amount (Ok u) t′ =
     (booking-fault (vec-items (t .rests)) from to amount ≡ None) × (vec-items (t′ .rests) ≡ move (vec-items (t .rests)) from to amount)
     × (vec-items (t′ .loads) ≡ vec-items (t .loads)) × (t′ .count ≡ t .count)
 Books t from to amount (Err e) t′ = (booking-fault (vec-items (t .rests)) from to amount ≡ Some e) × (t′ ≡ t)
+
+-- all loads, rests and the count are zero, and the tables as long as they were
+pub record Cleared (t t′ : Table) : Type 0 where
+  pub loads : vec-items (t′ .loads) ≡ replicate (vec-len (t .loads)) 0
+  pub rests : vec-items (t′ .rests) ≡ replicate (vec-len (t .rests)) (pos 0)
+  pub count : t′ .count ≡ 0
+  pub loads-long : vec-len (t′ .loads) ≡ vec-len (t .loads)
+  pub rests-long : vec-len (t′ .rests) ≡ vec-len (t .rests)

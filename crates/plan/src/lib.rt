@@ -1,6 +1,7 @@
 mod booking;
 mod calls;
 mod checks;
+mod clearing;
 mod front;
 mod laws;
 mod pick;
