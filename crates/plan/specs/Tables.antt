@@ -11,6 +11,7 @@ use Rattle.std.specs.declared.option.Option.{Option}
 use Rattle.std.specs.declared.option.Option.the-variants.{Some, None}
 use Rattle.std.specs.declared.result.Result.{Result}
 use Rattle.std.specs.declared.result.Result.the-variants.{Ok, Err}
+use Rattle.networks.specs.Net.{Net}
 use Rattle.networks.specs.declared.refusal.Refusal.{Refusal}
 use Rattle.networks.specs.declared.refusal.Refusal.the-variants.{NoPlace, SamePlace, BadAmount, RestBound}
 use Rattle.plan.specs.declared.table.Table.{Table}
@@ -44,3 +45,14 @@ pub record Cleared (t t′ : Table) : Type 0 where
   pub count : t′ .count ≡ 0
   pub loads-long : vec-len (t′ .loads) ≡ vec-len (t .loads)
   pub rests-long : vec-len (t′ .rests) ≡ vec-len (t .rests)
+
+-- the table was made for the network
+pub record Made-for {C : Type 0} (net : Net C) (t : Table) : Type 0 where
+  pub loads : vec-len (t .loads) ≡ length (net .ways)
+  pub rests : vec-len (t .rests) ≡ net .places
+
+-- loads, rests and count are as they were, and the tables as long
+pub record Same (t t′ : Table) : Type 0 where
+  pub loads : t′ .loads ≡ t .loads
+  pub rests : t′ .rests ≡ t .rests
+  pub count : t′ .count ≡ t .count

@@ -4,6 +4,7 @@ mod checks;
 mod clearing;
 mod front;
 mod laws;
+mod losing;
 mod pick;
 mod relax;
 mod rounds;
