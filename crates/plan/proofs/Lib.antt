@@ -37,4 +37,5 @@ pub mod Starting
 pub mod Searching
 pub mod Fronting
 pub mod Picking
-pub mod Opening
+pub mod Deciding
+pub mod Opened

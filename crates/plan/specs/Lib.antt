@@ -14,3 +14,4 @@ pub mod Tables
 pub mod Standing
 pub mod Law
 pub mod Determined
+pub mod Plans

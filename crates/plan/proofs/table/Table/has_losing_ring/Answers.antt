@@ -2,7 +2,7 @@ use mathlib.Core.Path.{_≡_, refl, sym, ap, subst, _∙_}
 use native.Mathlib.Omega.{arith}
 use Rattle.std.specs.Of.Vec.{vec-items}
 use Rattle.plan.specs.Entries.{Fits}
-use Rattle.plan.proofs.Opening.{passed, fits, decided-by}
+use Rattle.plan.proofs.Deciding.{passed, fits, decided-by}
 use Rattle.plan.proofs.table.Table.has_losing_ring.Needs as need
 
 pub prices-requires : need.prices-requires
