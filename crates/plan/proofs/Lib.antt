@@ -39,3 +39,4 @@ pub mod Fronting
 pub mod Picking
 pub mod Deciding
 pub mod Opened
+pub mod Booked

@@ -1,4 +1,5 @@
 mod booking;
+mod bookings;
 mod calls;
 mod checks;
 mod clearing;
