@@ -1,7 +1,7 @@
 use super::*;
-use costs::Cost;
 use crate::ends::EndsDebug;
 use crate::ends::EndsPartialEq;
+use costs::Cost;
 use costs::Pair;
 use costs::PairCost;
 use costs::Whole;

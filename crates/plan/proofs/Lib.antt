@@ -36,3 +36,4 @@ pub mod Running
 pub mod Starting
 pub mod Searching
 pub mod Fronting
+pub mod Legs

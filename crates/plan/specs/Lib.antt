@@ -6,6 +6,7 @@ pub mod Sweeps
 pub mod Rounds
 pub mod Starts
 pub mod Searches
+pub mod Trails
 pub mod State
 pub mod Checks
 pub mod Rules

@@ -30,8 +30,12 @@ fn ways_fault<N: Network>(net: &N) -> Option<Refusal>
 {
     let places = net.places();
     for k in 0..net.ways() {
-        let Some(ends) = net.way(k) else { unreachable() };
-        let Some(cost) = net.cost(k) else { unreachable() };
+        let Some(ends) = net.way(k) else {
+            unreachable()
+        };
+        let Some(cost) = net.cost(k) else {
+            unreachable()
+        };
         if let Some(refusal) = way_fault(places, k, ends, cost) {
             return Some(refusal);
         }

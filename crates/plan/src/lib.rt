@@ -1,7 +1,8 @@
 mod calls;
 mod checks;
-mod laws;
 mod front;
+mod laws;
+mod leg;
 mod relax;
 mod rounds;
 mod scan;
