@@ -37,3 +37,4 @@ pub mod Starting
 pub mod Searching
 pub mod Fronting
 pub mod Legs
+pub mod Trailing

@@ -1,3 +1,4 @@
+mod back;
 mod calls;
 mod checks;
 mod front;
