@@ -38,3 +38,4 @@ pub mod Searching
 pub mod Fronting
 pub mod Legs
 pub mod Trailing
+pub mod Loading

@@ -2,9 +2,9 @@
 use mathlib.Core.Path.{_≡_}
 use mathlib.Core.Logic.{_≢_}
 use mathlib.Core.Bool.{Bool, true}
-use mathlib.Core.List.{List, reverse}
-use Prim.Native.Nat.{ℕ, _≤_, _<_}
-use lib.ListN.{length, take}
+use mathlib.Core.List.{List, [], _∷_, reverse}
+use Prim.Native.Nat.{ℕ, _+_, _-_, _≤_, _<_}
+use lib.ListN.{length, getD, set, take}
 use Rattle.std.specs.Options.{Cases}
 use Rattle.std.specs.declared.option.Option.{Option}
 use Rattle.std.specs.declared.option.Option.the-variants.{Some}
@@ -13,6 +13,7 @@ use Rattle.networks.specs.Net.{Net}
 use Rattle.plan.specs.declared.back.Trail.{Trail}
 use Rattle.plan.specs.declared.leg.Leg.{Leg}
 use Rattle.plan.specs.declared.step.Step.{Step}
+use Rattle.plan.specs.declared.step.Step.the-variants.{Ahead, Back}
 use Rattle.plan.specs.Entries.{Work, tables, front, entry}
 use Rattle.plan.specs.Searches.{Searched}
 use Rattle.plan.specs.Standing.{Inside}
@@ -21,6 +22,12 @@ use Rattle.plan.specs.Steps.{Gives, Route}
 -- the first n steps of a path in the order of the route, which is the reverse
 abbrev pub on-path : ℕ → List Step → List Step
 on-path n path = reverse (take n path)
+
+-- x can be sent along the steps: each has room for it in its turn, and no load comes above the greatest limit
+abbrev pub Bears : ℕ → List Step → List ℕ → Type 0
+Bears x [] f = Unit {0}
+Bears x (Ahead k ∷ ss) f = (k < length f) × (getD f k 0 + x ≤ 1000000) × Bears x ss (set f k (getD f k 0 + x))
+Bears x (Back k ∷ ss) f = (k < length f) × (x ≤ getD f k 0) × Bears x ss (set f k (getD f k 0 - x))
 
 module _ {C R : Type 0} (K : Kind C R) (net : Net C) (loads : List ℕ) where
   -- the step begins there, with that room; none if it is not open

@@ -8,6 +8,7 @@ mod relax;
 mod rounds;
 mod scan;
 mod search;
+mod sending;
 mod start;
 mod step;
 
