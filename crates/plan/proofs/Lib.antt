@@ -39,3 +39,4 @@ pub mod Fronting
 pub mod Legs
 pub mod Trailing
 pub mod Loading
+pub mod Bearing

@@ -1,8 +1,8 @@
 -- Following the noted steps back from a place comes to where the search began, along a cheapest route.
 use mathlib.Core.Path.{_≡_, refl, sym, ap, subst, _∙_}
 use mathlib.Core.Logic.{_≢_, ⊎-elim}
-use mathlib.Core.Bool.{Bool}
-use mathlib.Core.List.{List, [], _∷_, _++_, reverse}
+use mathlib.Core.Bool.{Bool, true}
+use mathlib.Core.List.{List, [], _∷_, reverse}
 use native.Mathlib.Omega.{arith}
 use Prim.Native.Nat.{ℕ, zero, suc, _+_, _≤_, _<_, min}
 use lib.ListN.{length, take, set, length-take, length-reverse}
@@ -13,18 +13,17 @@ use Rattle.std.proofs.shelf.Elements.{all-weaker}
 use Rattle.std.proofs.shelf.Lists.{reverse-append, take-more-set, length-take-le}
 use Rattle.costs.specs.Kind.{Kind}
 use Rattle.networks.specs.Net.{Net}
-use Rattle.plan.specs.declared.back.Trail.{Trail}
 use Rattle.plan.specs.declared.step.Step.{Step}
 use Rattle.plan.specs.Entries.{Work, tables, front, entry}
 use Rattle.plan.specs.Rounds.{Came}
-use Rattle.plan.specs.Standing.{Inside}
+use Rattle.plan.specs.Searches.{Searched}
 use Rattle.plan.specs.Steps.{Gives, Leads, there, then, Route}
-use Rattle.plan.specs.Trails.{on-path, Begins, Ended, Trailed}
+use Rattle.plan.specs.Trails.{on-path, Ended, Trailed}
 use Rattle.plan.proofs.Flow.{unit-of}
 use Rattle.plan.proofs.Costs.{cancel}
 use Rattle.plan.proofs.Bridge.{given}
 use Rattle.plan.proofs.Walks.{one-step, Has-room, leads-rooms, rooms-lead, walk-inside, route-short}
-use Rattle.plan.proofs.Found.{Entries, rises}
+use Rattle.plan.proofs.Found.{Distances, rises}
 use Rattle.plan.proofs.Rising.{Rising, rising-apart}
 
 -- what stands in the first n of a list stands in it
@@ -56,6 +55,20 @@ module _ {C R : Type 0} (K : Kind C R) (net : Net C) (loads : List ℕ) where
     pub positive : 1 ≤ amount → 1 ≤ left
     pub most : (z : ℕ) → z ≤ amount → All (Has-room K net loads z) ss → z ≤ left
 
+  module _ {n u : ℕ} {t : Work R} (searched : Searched K net loads (λ v. v ≡ u) n t true) where
+    -- the entries of a search from u that ended
+    pub distances-by : Distances K net loads u (λ v x. entry K t v ≡ Some x)
+    distances-by = record {
+      entries = record {
+        one = λ v x z p q. let s : Some x ≡ Some z = sym p ∙ q in cc;
+        closed = λ s a b r c x g i. let m = searched .closed refl s a b c x r g i in (m .value, m .is, m .most);
+      };
+      start = let m = searched .begun u refl in (m .value, m .is, m .most);
+      walked = λ v y i.
+          let r = searched .reached v y i in
+          (r .steps, r .met, subst (λ p. Leads K net loads 1 p (r .steps) (r .met) v y) (r .begins) (r .leads));
+    }
+
   leads-some : {x u v : ℕ} {ss : List Step} {vs : List ℕ} {c : K .group .Carrier} → Leads K net loads x u ss vs v c → u ≢ v → 1 ≤ length ss
   leads-some (there u) ne = absurd (ne refl)
   leads-some (then u v w s ss vs c d r g l rest) ne = omega arith
@@ -67,17 +80,11 @@ module _ {C R : Type 0} (K : Kind C R) (net : Net C) (loads : List ℕ) where
     abbrev rank : ℕ → ℕ
     rank = e .searched .traced .rank
 
+    found : Distances K net loads from (λ v x. entry K t v ≡ Some x)
+    found = distances-by (e .searched)
+
     abbrev Far : List Step → ℕ → ℕ → Type 0
     Far ss at left = So-far t rank to amount y ss at left
-
-    one-entry : (v : ℕ) (x z : K .group .Carrier) → entry K t v ≡ Some x → entry K t v ≡ Some z → x ≡ z
-    one-entry v x z p q = let s : Some x ≡ Some z = sym p ∙ q in cc
-
-    entries : Entries K net loads (λ v x. entry K t v ≡ Some x)
-    entries = record {
-      one = one-entry;
-      closed = λ s u v r c x g i. let m = e .searched .closed refl s u v c x r g i in (m .value, m .is, m .most);
-    }
 
     begins-inside : from < net .places
     begins-inside =
@@ -86,19 +93,16 @@ module _ {C R : Type 0} (K : Kind C R) (net : Net C) (loads : List ℕ) where
         omega (arith, r .inside, length-take (net .places) rows)
 
     entry-inside : (v : ℕ) (x : K .group .Carrier) → entry K t v ≡ Some x → v < net .places
-    entry-inside v x i =
-        let r = e .searched .reached v x i in
-        walk-inside K net loads (e .inside) (subst (λ u. u < net .places) (sym (r .begins)) begins-inside) (r .leads)
+    entry-inside v x i = walk-inside K net loads (e .inside) begins-inside (found .walked v x i .2)
 
     -- where the search began the entry is zero
     begins-zero : (x : K .group .Carrier) → entry K t from ≡ Some x → x ≡ K .group .zero
     begins-zero x i =
         let G = K .group in
-        let m = e .searched .begun from refl in
-        let low : G .le x (G .zero) = subst (λ z. G .le z (G .zero)) (one-entry from (m .value) x (m .is) i) (m .most) in
-        let r = e .searched .reached from x i in
-        let b = rises K net loads entries (subst (λ u. entry K t u ≡ Some x) (sym (r .begins)) i) (r .leads) in
-        let up : G .le x (G .plus x x) = subst (λ z. G .le z (G .plus x x)) (one-entry from (b .0) x (b .1) i) (b .2) in
+        let m = found .start in
+        let low : G .le x (G .zero) = subst (λ z. G .le z (G .zero)) (found .entries .one from (m .0) x (m .1) i) (m .2) in
+        let b = rises K net loads (found .entries) i (found .walked from x i .2) in
+        let up : G .le x (G .plus x x) = subst (λ z. G .le z (G .plus x x)) (found .entries .one from (b .0) x (b .1) i) (b .2) in
         G .antisym _ _ low (cancel G (G .zero) x x (subst (λ z. G .le z (G .plus x x)) (sym (G .unit x)) up))
 
     -- the step that is noted at another place with an entry
@@ -141,8 +145,8 @@ module _ {C R : Type 0} (K : Kind C R) (net : Net C) (loads : List ℕ) where
         far-more u r v c g =
             let G = K .group in
             let same = one-step K net loads g came-gives in
-            let m = e .searched .closed refl s (came .from) at (came .cost) (came .value) (came .room) came-gives (came .is) in
-            let low : G .le (far .value) (G .plus (came .value) (came .cost)) = subst (λ z. G .le z (G .plus (came .value) (came .cost))) (one-entry at (m .value) (far .value) (m .is) (far .is)) (m .most) in
+            let m = found .entries .closed s (came .from) at (came .room) (came .cost) (came .value) came-gives (came .is) in
+            let low : G .le (far .value) (G .plus (came .value) (came .cost)) = subst (λ z. G .le z (G .plus (came .value) (came .cost))) (found .entries .one at (m .0) (far .value) (m .1) (far .is)) (m .2) in
             let tight : G .plus (came .value) (came .cost) ≡ far .value = G .antisym _ _ (came .above) low in
             let some : 1 ≤ came .room = given K net loads came-gives .some in
             let room : r ≡ came .room = same .3 in
