@@ -40,3 +40,7 @@ pub mod Picking
 pub mod Deciding
 pub mod Opened
 pub mod Booked
+pub mod Legs
+pub mod Trailing
+pub mod Loading
+pub mod Bearing

@@ -81,7 +81,7 @@ module _ {g : Group} (net : Net g) where
         (cases-eq j k);
   }
 
-  step-keeps : (f : List ℕ) (x : ℕ) (s : Step) → Keeps net f → Carries net f x s → Keeps net (send-step x s f)
+  pub step-keeps : (f : List ℕ) (x : ℕ) (s : Step) → Keeps net f → Carries net f x s → Keeps net (send-step x s f)
   step-keeps f x (Ahead k) keeps c =
       let old = keeps .within k (c .real) in
       put-keeps f k _ keeps (c .real) (omega (arith, c .enough))
@@ -108,18 +108,18 @@ module _ {g : Group} (net : Net g) where
   other-room f x (Back k) (Back j) ne = getD-set-other f k j _ 0 ne
 
   -- two steps along one way share the place where the first starts
-  one-way : (s d : Step) → from net s ≢ from net d → from net s ≢ to net d → which d ≢ which s
+  pub one-way : (s d : Step) → from net s ≢ from net d → from net s ≢ to net d → which d ≢ which s
   one-way (Ahead k) (Ahead j) p q e = p (ap (λ i. way net i .tail) (sym e))
   one-way (Ahead k) (Back j) p q e = q (ap (λ i. way net i .tail) (sym e))
   one-way (Back k) (Ahead j) p q e = q (ap (λ i. way net i .head) (sym e))
   one-way (Back k) (Back j) p q e = p (ap (λ i. way net i .head) (sym e))
 
   -- what holds of each stop holds of both ends of each step
-  both-ends : (P : ℕ → Type 0) (u v : ℕ) (ss : List Step) → Leads net u ss v → P u → All P (map (to net) ss) → All (λ d. P (from net d) × P (to net d)) ss
+  pub both-ends : (P : ℕ → Type 0) (u v : ℕ) (ss : List Step) → Leads net u ss v → P u → All P (map (to net) ss) → All (λ d. P (from net d) × P (to net d)) ss
   both-ends P u v [] leads p all = tt
   both-ends P u v (s ∷ ss) leads p all = ((subst P (sym (leads .0)) p, all .0), both-ends P (to net s) v ss (leads .1) (all .0) (all .1))
 
-  still-carries : (f : List ℕ) (x y : ℕ) (s d : Step) → which d ≢ which s → Carries net f y d → Carries net (send-step x s f) y d
+  pub still-carries : (f : List ℕ) (x y : ℕ) (s d : Step) → which d ≢ which s → Carries net f y d → Carries net (send-step x s f) y d
   still-carries f x y s d ne c = record { real = c .real; enough = rw (other-room f x s d ne) (c .enough) }
 
   -- x more, sent along a route from u to v, leaves u, arrives at v, and passes all other places

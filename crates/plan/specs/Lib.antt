@@ -7,6 +7,7 @@ pub mod Rounds
 pub mod Starts
 pub mod Searches
 pub mod Picks
+pub mod Trails
 pub mod State
 pub mod Checks
 pub mod Rules
