@@ -21,22 +21,22 @@ module _ {x : ℕ} {path : List Step} {len i : ℕ} {f g : List ℕ} (go : To-go
   gone l = let none : i ≡ 0 = omega arith in ap (λ n. along x (on-path n path) f) (sym none) ∙ go .same
 
   module _ (some : 0 < i) where
-    next : (s : Step) → getD path (i - 1) (Ahead 0) ≡ s → on-path i path ≡ s ∷ on-path (i - 1) path
-    next s is =
+    on : on-path i path ≡ getD path (i - 1) (Ahead 0) ∷ on-path (i - 1) path
+    on =
         let l : i - 1 < length path = omega (arith, go .within) in
         let back : i ≡ i - 1 + 1 = omega arith in
         ap (λ n. on-path n path) back ∙ ap reverse (take-more path (i - 1) (Ahead 0) l) ∙ reverse-append (take (i - 1) path) (getD path (i - 1) (Ahead 0) ∷ [])
-        ∙ ap (λ y. y ∷ on-path (i - 1) path) is
 
-    module _ (k : ℕ) where
-      -- one step ahead
-      pub go-ahead : getD path (i - 1) (Ahead 0) ≡ Ahead k → (k < length f) × (getD f k 0 + x ≤ 1000000) × To-go x path len (i - 1) (set f k (getD f k 0 + x)) g
-      go-ahead is =
-          let b : Bears x (Ahead k ∷ on-path (i - 1) path) f = subst (λ ss. Bears x ss f) (next (Ahead k) is) (go .bears) in
-          (b .0, b .1, record { within = omega (arith, go .within); bears = b .2; same = ap (λ ss. along x ss f) (sym (next (Ahead k) is)) ∙ go .same })
+    -- the next step bears x, and then there is one step less to go
+    next : (s : Step) → on-path i path ≡ s ∷ on-path (i - 1) path → Bears x (s ∷ []) f × To-go x path len (i - 1) (along x (s ∷ []) f) g
+    next (Ahead k) is =
+        let b : Bears x (Ahead k ∷ on-path (i - 1) path) f = subst (λ ss. Bears x ss f) is (go .bears) in
+        ((b .0, b .1, tt), record { within = omega (arith, go .within); bears = b .2; same = ap (λ ss. along x ss f) (sym is) ∙ go .same })
+    next (Back k) is =
+        let b : Bears x (Back k ∷ on-path (i - 1) path) f = subst (λ ss. Bears x ss f) is (go .bears) in
+        ((b .0, b .1, tt), record { within = omega (arith, go .within); bears = b .2; same = ap (λ ss. along x ss f) (sym is) ∙ go .same })
 
-      -- one step back
-      pub go-back : getD path (i - 1) (Ahead 0) ≡ Back k → (k < length f) × (x ≤ getD f k 0) × To-go x path len (i - 1) (set f k (getD f k 0 - x)) g
-      go-back is =
-          let b : Bears x (Back k ∷ on-path (i - 1) path) f = subst (λ ss. Bears x ss f) (next (Back k) is) (go .bears) in
-          (b .0, b .1, record { within = omega (arith, go .within); bears = b .2; same = ap (λ ss. along x ss f) (sym (next (Back k) is)) ∙ go .same })
+    pub go-step : (f′ : List ℕ) → (Bears x (getD path (i - 1) (Ahead 0) ∷ []) f → f′ ≡ along x (getD path (i - 1) (Ahead 0) ∷ []) f) → To-go x path len (i - 1) f′ g
+    go-step f′ sent =
+        let n = next (getD path (i - 1) (Ahead 0)) on in
+        subst (λ y. To-go x path len (i - 1) y g) (sym (sent (n .0))) (n .1)
