@@ -17,6 +17,7 @@ pub mod Limits
 pub mod Bridge
 pub mod Augment
 pub mod Moves
+pub mod Nearing
 pub mod Faults
 pub mod Standing
 pub mod Kept

@@ -8,6 +8,7 @@ mod front;
 mod laws;
 mod leg;
 mod losing;
+mod nearest;
 mod opening;
 mod pick;
 mod planner;
