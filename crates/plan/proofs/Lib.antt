@@ -25,6 +25,7 @@ pub mod Stands
 pub mod Decide
 pub mod Answered
 pub mod Determined
+pub mod Dispatching
 pub mod Checked
 -- Lemmas that the proofs of this crate share.
 pub mod Noting

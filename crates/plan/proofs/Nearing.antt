@@ -58,12 +58,13 @@ module _ {C R : Type 0} (K : Kind C R) (net : Net C) (s : State) (u : ℕ) (plac
   nearest-by (Some v) still h picked = λ stands.
       let all = ended K net stands place _ still h in
       let found = distances-by K net (s .loads) all in
-      let at : entry K (front (net .places) t) v ≡ Some (picked .value) = entry-front K _ t v (picked .place) ∙ picked .wants .is in
-      (picked .value,
-      target-by K net found (sound K net stands place) (picked .place) (picked .wants .negative) at
-      (λ w z l n e. picked .cheapest w z l (record { negative = n; is = sym (entry-front K _ t w l) ∙ e }))
-      (λ w l n e. picked .lowest w l (record { negative = n; is = sym (entry-front K _ t w (omega (arith, l, picked .place))) ∙ e })),
-      record { inside = inside K net (stands .passed); searched = all; is = at })
+      let at : entry K (front (net .places) t) v ≡ Some (picked .value) = entry-front K _ t v (picked .place) ∙ picked .wants .is in (
+        picked .value,
+        target-by K net found (sound K net stands place) (picked .place) (picked .wants .negative) at
+            (λ w z l n e. picked .cheapest w z l (record { negative = n; is = sym (entry-front K _ t w l) ∙ e }))
+            (λ w l n e. picked .lowest w l (record { negative = n; is = sym (entry-front K _ t w (omega (arith, l, picked .place))) ∙ e })),
+        record { inside = inside K net (stands .passed); searched = all; is = at },
+      )
 
   -- the same where the tables were lent: n, and the loads, rests and marks that were seen, are those
   pub nearest-lent : (n : ℕ) (loads : List ℕ) (rests : List ℤ) (seen : List Bool) (t′ : Work R) → n ≡ net .places → loads ≡ s .loads → rests ≡ s .rests →

@@ -7,6 +7,7 @@ pub mod Sweeps
 pub mod Rounds
 pub mod Starts
 pub mod Searches
+pub mod Sendings
 pub mod Picks
 pub mod Trails
 pub mod State

@@ -4,6 +4,7 @@ mod bookings;
 mod calls;
 mod checks;
 mod clearing;
+mod dispatch;
 mod front;
 mod laws;
 mod leg;
