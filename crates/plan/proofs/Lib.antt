@@ -34,6 +34,7 @@ pub mod Relaxing
 pub mod Trying
 pub mod Walking
 pub mod Tracing
+pub mod Routes
 pub mod Running
 pub mod Starting
 pub mod Searching

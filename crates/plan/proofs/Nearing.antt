@@ -8,7 +8,7 @@ use lib.IntN.{ℤ}
 use lib.ListN.{length, take}
 use lib.Seq.{getD-take}
 use Rattle.std.specs.Finite.{nth}
-use Rattle.std.specs.Options.{mapped}
+use Rattle.std.specs.Options.{Cases, mapped}
 use Rattle.std.specs.declared.option.Option.{Option}
 use Rattle.std.specs.declared.option.Option.the-variants.{Some, None}
 use Rattle.costs.specs.Kind.{Kind, values}
@@ -35,6 +35,11 @@ nth-front (suc n) (x ∷ xs) (suc v) l = nth-front n xs v (omega arith)
 -- the first n places have the same entries
 entry-front : {C R : Type 0} (K : Kind C R) (n : ℕ) (t : Work R) (v : ℕ) → v < n → entry K (front n t) v ≡ entry K t v
 entry-front K n t v l = ap₂ (λ b o. cond b (mapped (values K) o) None) (getD-take n (t .seen) v false l) (nth-front n (t .rows) v l)
+
+-- what is picked is among the places
+pub within-by : {C R : Type 0} (K : Kind C R) (rests : List ℤ) (t : Work R) (n : ℕ) (r : Option ℕ) → Picked K rests t n r → Cases r (Unit {0}) (λ v. v < n)
+within-by K rests t n None picked = tt
+within-by K rests t n (Some v) picked = picked .place
 
 module _ {C R : Type 0} (K : Kind C R) (net : Net C) {s : State} (stands : Standing K net s) {u : ℕ} (place : u < net .places) where
   sound : Losing K net (s .loads) → ⊥

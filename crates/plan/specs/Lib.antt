@@ -12,6 +12,7 @@ pub mod Picks
 pub mod Trails
 pub mod State
 pub mod Checks
+pub mod Routings
 pub mod Rules
 pub mod Tables
 pub mod Standing

@@ -11,6 +11,14 @@ pub enum Call {
     Settle { budget: u32 },
 }
 
+// How a route ends.
+#[derive(Clone, Copy, PartialEq, Eq, Debug)]
+pub enum Routed {
+    Settled,
+    Blocked { at: usize },
+    Sent { from: usize, to: usize, amount: u32 },
+}
+
 // How a settle ends.
 #[derive(Clone, Copy, PartialEq, Eq, Debug)]
 pub enum Ending {

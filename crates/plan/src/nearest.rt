@@ -2,6 +2,7 @@ ghost use mathlib.Core.Path.{_≡_};
 ghost use Prim.Native.Nat.{_≤_, _<_};
 ghost use lib.ListN.{length, drop};
 ghost use Rattle.std.specs.Of.Vec.{vec-items, vec-len};
+ghost use Rattle.std.specs.Options.{Cases as BySome};
 ghost use Rattle.std.specs.declared.option.Option.the-variants.{None};
 ghost use Rattle.plan.specs.Checks.{net-fault};
 ghost use Rattle.plan.specs.Entries.{tables};
@@ -27,6 +28,7 @@ impl Table {
         requires place { ⌜ from < N·Network .means (now net) .places ⌝ }
         ensures same { λ _. ⌜ Same (now (self .entry)) (now (self .exit)) ⌝ }
         ensures past { λ _. ⌜ drop (N·Network .means (now (net .entry)) .places) (now (work .exit)) ≡ drop (N·Network .means (now (net .entry)) .places) (now (work .entry)) ⌝ }
+        ensures place { λ r. ⌜ BySome r (Unit {0}) (λ v. v < N·Network .means (now (net .entry)) .places) ⌝ }
         ensures nearest { λ r. ⌜ Nearest (Cost·Cost .kind) (N·Network .means (now (net .entry))) (state-of (now (self .entry))) from
             (tables (now (work .exit)) (vec-items (now (self .exit) .seen)) (vec-items (now (self .exit) .via))) r ⌝ }
     {

@@ -1,11 +1,14 @@
 use mathlib.Core.Path.{_≡_, refl, sym, ap, ap₂, subst, _∙_}
 use native.Mathlib.Omega.{arith}
+use mathlib.Core.List.{[]}
+use Prim.Native.Nat.{_<_}
 use lib.ListN.{length, drop}
+use Rattle.std.specs.Options.{Cases}
 use Rattle.std.proofs.shelf.Lists.{take-at}
 use Rattle.plan.specs.Entries.{Fits, tables}
 use Rattle.plan.specs.Tables.{state-of}
 use Rattle.plan.proofs.Deciding.{passed, fits}
-use Rattle.plan.proofs.Nearing.{nearest-lent}
+use Rattle.plan.proofs.Nearing.{within-by, nearest-lent}
 use Rattle.plan.proofs.table.Table.nearest.Needs as need
 
 pub distances-requires : need.distances-requires
@@ -38,6 +41,7 @@ returns g c =
     record {
       same = record { loads = refl; rests = refl; count = refl };
       past = subst (λ m. drop m (c .distances .last .rows) ≡ drop m (c .args .work .now)) n (c .distances .ensures .past);
+      place = subst (λ m. Cases (c .target .result) (Unit {0}) (λ v. v < m)) (c .as-slice-2 .ensures .len ∙ c .pre .made .rests) (within-by (g .Cost·Cost .kind) _ _ _ (c .target .result) (c .target .ensures []));
       nearest = nearest-lent (g .Cost·Cost .kind) (g .N·Network .means (c .args .net .now)) (state-of (c .args .self .now)) (c .args .from) (c .pre .place) _
           (c .places-places .result) _ _ _ (tables (c .distances .last .rows) (c .distances .last .seen) (c .distances .last .via)) n (c .as-slice .ensures .value) (c .as-slice-2 .ensures .value)
           (ap length (sym (c .as-slice-2 .ensures .value)) ∙ c .as-slice-2 .ensures .len ∙ c .pre .made .rests) (c .as-slice-3 .ensures .value) (ap₂ (λ x y. tables (c .distances .last .rows) x y) (sym seen) (sym via)) (c .target .result) (c .distances .result) (c .distances .ensures .found) (c .target .ensures);
