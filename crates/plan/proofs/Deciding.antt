@@ -1,10 +1,11 @@
 -- A search from everywhere decides whether some ring costs less than zero.
 use mathlib.Core.Path.{_≡_, refl, sym, ap, subst, _∙_}
 use mathlib.Core.Bool.{Bool, true, false, not, _||_}
-use mathlib.Core.List.{List}
-use Prim.Native.Nat.{ℕ, _≤_, _<_}
+use mathlib.Core.List.{List, [], _∷_}
+use Prim.Native.Nat.{ℕ, suc, _≤_, _<_}
 use native.Mathlib.Omega.{arith}
-use borrow.Author.Tests.{le-ltb}
+use borrow.Author.Tests.{lt-ltb, le-ltb}
+use Rattle.std.proofs.shelf.Tests.{ne-eqb}
 use lib.Dec.{eqb, ltb}
 use lib.ListN.{length}
 use Rattle.std.specs.Finite.{nth}
@@ -15,10 +16,10 @@ use Rattle.costs.specs.Kind.{Kind}
 use Rattle.networks.specs.Net.{Net, Way}
 use Rattle.networks.specs.declared.refusal.Refusal.{Refusal}
 use Rattle.networks.specs.declared.refusal.Refusal.the-variants.{BadPlaces, ManyWays, ShortTable}
-use Rattle.plan.specs.Checks.{or-else, when, fault-of-ways, net-fault, open-fault}
+use Rattle.plan.specs.Checks.{or-else, when, fault-of-way, fault-of-ways, net-fault, open-fault}
 use Rattle.plan.specs.Entries.{Work, Fits, entry}
 use Rattle.plan.specs.Searches.{Searched}
-use Rattle.plan.specs.Standing.{Passed, Inside}
+use Rattle.plan.specs.Standing.{Fair, Passed, Inside}
 use Rattle.plan.specs.State.{State, closed}
 use Rattle.plan.specs.Steps.{Losing}
 use Rattle.plan.proofs.Faults.{open-passed}
@@ -42,6 +43,29 @@ module _ {C R : Type 0} (K : Kind C R) (net : Net C) where
   passed e =
       open-passed K net closed (net .places)
       (open-is (net .places) ∙ ap (λ o. or-else o (when (ltb (net .places) (net .places)) ShortTable)) e ∙ ap (λ b. when b ShortTable) (le-ltb (net .places) (net .places) (omega arith)))
+
+  fair-none : (k : ℕ) (w : Way C) → Fair K net w → fault-of-way K (net .places) k w ≡ None
+  fair-none k w f =
+      let a = lt-ltb (w .tail) (net .places) (f .tail) in
+      let b = lt-ltb (w .head) (net .places) (f .head) in
+      let c = ne-eqb (w .tail) (w .head) (f .apart) in
+      let d = le-ltb 1000000 (w .limit) (f .limit) in
+      let e = le-ltb 1000000 (K .weighs (w .cost)) (f .weight) in
+      simp (a, b, c, d, e)
+
+  ways-none : (k : ℕ) (ws : List (Way C)) → ((i : ℕ) (w : Way C) → nth ws i ≡ Some w → Fair K net w) → fault-of-ways K (net .places) k ws ≡ None
+  ways-none k [] f = refl
+  ways-none k (w ∷ ws) f =
+      ap (λ o. or-else o (fault-of-ways K (net .places) (suc k) ws)) (fair-none k w (f 0 w refl)) ∙ ways-none (suc k) ws (λ i x e. f (suc i) x e)
+
+  pub passed-none : Passed K net → net-fault K net ≡ None
+  passed-none p =
+      let some = p .some in
+      let a = ne-eqb (net .places) 0 (λ e. omega (arith, e)) in
+      let b = le-ltb 1024 (net .places) (p .places) in
+      let c = le-ltb 3000 (length (net .ways)) (p .ways) in
+      let d = ways-none 0 (net .ways) (p .fair) in
+      simp (a, b, c, d)
 
   pub fits : Passed K net → Fits K (net .places) (net .ways)
   fits p k w e = let f = p .fair k w e in record { tail = f .tail; head = f .head; light = f .weight }
