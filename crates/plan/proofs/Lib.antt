@@ -34,7 +34,8 @@ pub mod Relaxing
 pub mod Trying
 pub mod Walking
 pub mod Tracing
-pub mod Routes
+pub mod Routed
+pub mod Routings
 pub mod Running
 pub mod Starting
 pub mod Searching

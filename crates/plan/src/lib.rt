@@ -15,6 +15,7 @@ mod pick;
 mod planner;
 mod relax;
 mod rounds;
+mod routes;
 mod routing;
 mod scan;
 mod search;

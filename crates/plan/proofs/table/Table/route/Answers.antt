@@ -5,7 +5,7 @@ use lib.ListN.{length}
 use Rattle.std.specs.Of.Vec.{vec-items, vec-len}
 use Rattle.plan.specs.Picks.{Spent, Lowest}
 use Rattle.plan.specs.Tables.{state-of}
-use Rattle.plan.proofs.Routes.{source-by, rest-by, same-state, sent-by}
+use Rattle.plan.proofs.Routings.{source-by, rest-by, same-state, sent-by}
 use Rattle.plan.proofs.table.Table.route.Needs as need
 
 pub nearest-requires : need.nearest-requires
