@@ -6,6 +6,7 @@ pub mod Optimal
 pub mod Cut
 pub mod Send
 pub mod Rings
+pub mod Repeating
 pub mod Shorter
 pub mod Walks
 pub mod Found

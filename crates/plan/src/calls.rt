@@ -27,6 +27,13 @@ pub enum Ending {
     Unfinished,
 }
 
+// What a settle did: so many routes were sent, and how it ended.
+#[derive(Clone, Copy, PartialEq, Eq, Debug)]
+pub struct Outcome {
+    pub routes: u32,
+    pub ending: Ending,
+}
+
 // What a plan answers to a call.
 #[derive(Clone, Copy, PartialEq, Eq, Debug)]
 pub enum Answer {
