@@ -7,6 +7,7 @@ pub mod Cut
 pub mod Send
 pub mod Rings
 pub mod Repeating
+pub mod Settled
 pub mod Shorter
 pub mod Walks
 pub mod Found

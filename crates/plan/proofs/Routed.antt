@@ -35,7 +35,7 @@ use Rattle.plan.proofs.Faults.{some-none}
 use Rattle.plan.proofs.Stands.{is-good}
 
 module _ {C R N : Type 0} (K : Kind C R) (net : Net C) (h : List Event) (p : Plan N) (runs : Runs K net h p) where
-  is-open : p .opened ≡ true → plan-state p ≡ state-of (p .table)
+  pub is-open : p .opened ≡ true → plan-state p ≡ state-of (p .table)
   is-open o = ap (λ b. cond b (state-of (p .table)) closed) o
 
   -- an open plan stands

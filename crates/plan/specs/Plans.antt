@@ -12,8 +12,9 @@ use Rattle.costs.specs.Kind.{Kind}
 use Rattle.networks.specs.Net.{Net}
 use Rattle.networks.specs.declared.refusal.Refusal.{Refusal}
 use Rattle.plan.specs.declared.calls.Answer.{Answer}
-use Rattle.plan.specs.declared.calls.Answer.the-variants.{Opened, Booked, Settled, Blocked, Sent, Refused}
+use Rattle.plan.specs.declared.calls.Answer.the-variants.{Opened, Booked, Settled, Blocked, Sent, Ran, Refused}
 use Rattle.plan.specs.declared.calls.Call.{Call}
+use Rattle.plan.specs.declared.calls.Outcome.{Outcome}
 use Rattle.plan.specs.declared.calls.Routed.{Routed}
 use Rattle.plan.specs.declared.calls.Routed.the-variants as routed
 use Rattle.plan.specs.declared.planner.Plan.{Plan}
@@ -41,7 +42,7 @@ pub record Runs {C R N : Type 0} (K : Kind C R) (net : Net C) (h : List Event) (
 abbrev pub Called : {C R N : Type 0} → Kind C R → Net C → Plan N → Call → ℕ → Answer → Plan N → Type 0
 Called K net p c work a p′ = (h : List Event) → Runs K net h p → Runs K net (record { call = c; work = work; answer = a } ∷ h) p′
 
--- what opening, booking and routing answer
+-- what opening, booking, routing and settling answer
 abbrev pub opening : Result (Unit {0}) Refusal → Answer
 opening (Ok u) = Opened
 opening (Err r) = Refused r
@@ -55,6 +56,10 @@ routing (Ok routed.Settled) = Settled
 routing (Ok (routed.Blocked u)) = Blocked u
 routing (Ok (routed.Sent u v x)) = Sent u v x
 routing (Err r) = Refused r
+
+abbrev pub settling : Result Outcome Refusal → Answer
+settling (Ok o) = Ran (o .routes) (o .ending)
+settling (Err r) = Refused r
 
 -- the plan is open, over a network that passes the checks, with a table made for it
 pub record Usable {C R N : Type 0} (K : Kind C R) (net : Net C) (p : Plan N) : Type 0 where

@@ -20,6 +20,7 @@ mod routing;
 mod scan;
 mod search;
 mod sending;
+mod settles;
 mod settling;
 mod start;
 mod step;
