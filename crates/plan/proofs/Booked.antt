@@ -21,7 +21,7 @@ use Rattle.plan.specs.declared.planner.Plan.{Plan}
 use Rattle.plan.specs.declared.table.Table.{Table}
 use Rattle.plan.specs.Checks.{or-else, when, outside, beyond, book-fault}
 use Rattle.plan.specs.Law.{Trace, then}
-use Rattle.plan.specs.Plans.{plan-state, Sized, Runs, booking}
+use Rattle.plan.specs.Plans.{If-refused, plan-state, Sized, Runs, booking}
 use Rattle.plan.specs.Rules.{Rule, move, book-refused, book-accepted}
 use Rattle.plan.specs.State.{State, closed, rest, Event}
 use Rattle.plan.specs.Tables.{state-of, booking-fault, Books}
@@ -76,3 +76,9 @@ module _ {C R N : Type 0} (K : Kind C R) (net : Net C) (work from to amount : �
               (subst (λ s. Rule K net work (state-of (p .table)) (Book from to amount) (Refused e) s) (sym same) (book-refused (state-of (p .table)) from to amount e (fault-is ∙ b .0))));
           sized = subst (Sized net) (sym (b .1)) (runs .sized);
         }
+
+-- a refused booking leaves the plan as it was
+pub book-unaltered : {N : Type 0} (from to amount : ℕ) (p : Plan N) (r : Result (Unit {0}) Refusal) (t : Table) → Books (p .table) from to amount r t →
+    If-refused r (record { net = p .net; table = t; opened = p .opened } ≡ p)
+book-unaltered from to amount p (Ok u) t b = tt
+book-unaltered from to amount p (Err e) t b = ap (λ x. record { net = p .net; table = x; opened = p .opened }) (b .1)

@@ -70,3 +70,8 @@ pub record Usable {C R N : Type 0} (K : Kind C R) (net : Net C) (p : Plan N) : T
 -- after no run is it open
 abbrev pub Never-opened : {C R N : Type 0} → Kind C R → Net C → Plan N → Type 0
 Never-opened K net p = (h : List Event) → Runs K net h p → p .opened ≡ false
+
+-- P holds, if the call was refused
+abbrev pub If-refused : {A : Type 0} → Result A Refusal → Type 0 → Type 0
+If-refused (Ok a) P = Unit {0}
+If-refused (Err r) P = P

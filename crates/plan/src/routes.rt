@@ -2,7 +2,7 @@ ghost use mathlib.Core.Path.{_≡_};
 ghost use lib.ListN.{length, drop};
 ghost use Rattle.std.specs.Orderings.{When};
 ghost use Rattle.plan.specs.declared.calls.Call.the-variants.{Route};
-ghost use Rattle.plan.specs.Plans.{Called, Usable, Never-opened, routing};
+ghost use Rattle.plan.specs.Plans.{Called, Usable, Never-opened, If-refused, routing};
 use super::calls::Routed;
 use super::checks::fault_of_net;
 use super::planner::Plan;
@@ -29,6 +29,7 @@ impl<N: Network> Plan<N> {
     pub(crate) fn route(&mut self, work: &mut [<N::Cost as Cost>::Row]) -> Result<Routed, Refusal>
         ensures net { λ _. ⌜ now (self .exit) .net ≡ now (self .entry) .net ⌝ }
         ensures past { λ _. ⌜ drop (N·Network .means (now (self .entry) .net) .places) (now (work .exit)) ≡ drop (N·Network .means (now (self .entry) .net) .places) (now (work .entry)) ⌝ }
+        ensures refused { λ r. ⌜ If-refused r ((now (self .exit) ≡ now (self .entry)) × (now (work .exit) ≡ now (work .entry))) ⌝ }
         ensures run { λ r. ⌜ Called (Cost·Cost .kind) (N·Network .means (now (self .entry) .net)) (now (self .entry)) Route (length (now (work .entry))) (routing r) (now (self .exit)) ⌝ }
     {
         if !self.usable() {

@@ -8,6 +8,7 @@ returns-then-not-usable g c =
     record {
       net = refl;
       past = refl;
+      refused = (refl, refl);
       run = λ h r. route-closed (g .Cost·Cost .kind) (g .N·Network .means (c .args .self .now .net)) h (c .args .self .now) r _ (c .if-not-usable .ensures tt h r);
     }
 
@@ -18,6 +19,7 @@ returns-then-work-places g c =
     record {
       net = refl;
       past = refl;
+      refused = (refl, refl);
       run = λ h r. route-short (g .Cost·Cost .kind) (g .N·Network .means (c .args .self .now .net)) h (c .args .self .now) r _ (c .if-not-usable .ensures tt .opened) (omega arith);
     }
 
@@ -28,6 +30,7 @@ returns g c =
     record {
       net = refl;
       past = c .route .ensures .past;
+      refused = tt;
       run = λ h r. route-done (g .Cost·Cost .kind) (g .N·Network .means (c .args .self .now .net)) h (c .args .self .now) r _ (c .if-not-usable .ensures tt .opened) (omega arith) (c .route .result) _
           (c .if-not-usable .ensures tt .opened) (c .route .ensures .long) (c .route .ensures .routed);
     }

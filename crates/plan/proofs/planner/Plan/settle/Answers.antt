@@ -8,6 +8,7 @@ returns-then-not-usable g c =
     record {
       net = refl;
       past = refl;
+      refused = (refl, refl);
       run = λ h r. settle-closed (g .Cost·Cost .kind) (g .N·Network .means (c .args .self .now .net)) h (c .args .self .now) r _ _ (c .if-not-usable .ensures tt h r);
     }
 
@@ -16,6 +17,7 @@ returns-then-budget-eq0 g c =
     record {
       net = refl;
       past = refl;
+      refused = (refl, refl);
       run = λ h r. settle-bad (g .Cost·Cost .kind) (g .N·Network .means (c .args .self .now .net)) h (c .args .self .now) r _ _ (c .if-not-usable .ensures tt .opened) (c .then-budget-eq0 .either);
     }
 
@@ -26,6 +28,7 @@ returns-then-work-places g c =
     record {
       net = refl;
       past = refl;
+      refused = (refl, refl);
       run = λ h r. settle-short (g .Cost·Cost .kind) (g .N·Network .means (c .args .self .now .net)) h (c .args .self .now) r _ _ (c .if-not-usable .ensures tt .opened) (omega (arith, c .if-budget-eq0 .left)) (c .if-budget-gt1000000 .left) (omega (arith, n, l));
     }
 
@@ -36,6 +39,7 @@ returns g c =
     record {
       net = refl;
       past = c .settle .ensures .past;
+      refused = tt;
       run = λ h r. settle-done (g .Cost·Cost .kind) (g .N·Network .means (c .args .self .now .net)) h (c .args .self .now) r _ _ (c .if-not-usable .ensures tt .opened) (omega (arith, c .if-budget-eq0 .left)) (c .if-budget-gt1000000 .left) (omega (arith, n, l)) (c .settle .result) _
           (c .if-not-usable .ensures tt .opened) (c .settle .ensures .long) (c .settle .ensures .settled);
     }
