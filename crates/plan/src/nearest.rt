@@ -9,7 +9,7 @@ ghost use Rattle.plan.specs.Entries.{tables};
 ghost use Rattle.plan.specs.Nearest.{Nearest};
 ghost use Rattle.plan.specs.Tables.{Same, Made-for, state-of};
 use super::front::distances;
-use super::pick::target;
+use super::pick::cheapest;
 use super::table::Table;
 use costs::Cost;
 use networks::Network;
@@ -42,6 +42,6 @@ impl Table {
             from,
             places,
         );
-        target::<N::Cost>(self.rests.as_slice(), work, self.seen.as_slice())
+        cheapest::<N::Cost>(self.rests.as_slice(), work, self.seen.as_slice())
     }
 }

@@ -70,7 +70,7 @@ fn picked<C: Cost>(
 }
 
 // The cheapest place with a negative rest that is marked, the lowest number among equals.
-pub(crate) fn target<C: Cost>(rests: &[i64], rows: &[C::Row], seen: &[bool]) -> Option<usize>
+pub(crate) fn cheapest<C: Cost>(rests: &[i64], rows: &[C::Row], seen: &[bool]) -> Option<usize>
     requires rows { ⌜ length (now rests) ≤ length (now rows) ⌝ }
     requires seen { ⌜ length (now rests) ≤ length (now seen) ⌝ }
     ensures { λ r. ⌜ ((via : List Step) → Picked (C·Cost .kind) (now (rests .entry)) (tables (now (rows .entry)) (now (seen .entry)) via) (length (now (rests .entry))) r) ⌝ }

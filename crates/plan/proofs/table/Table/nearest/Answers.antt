@@ -41,8 +41,8 @@ returns g c =
     record {
       same = record { loads = refl; rests = refl; count = refl };
       past = subst (λ m. drop m (c .distances .last .rows) ≡ drop m (c .args .work .now)) n (c .distances .ensures .past);
-      place = subst (λ m. Cases (c .target .result) (Unit {0}) (λ v. v < m)) (c .as-slice-2 .ensures .len ∙ c .pre .made .rests) (within-by (g .Cost·Cost .kind) _ _ _ (c .target .result) (c .target .ensures []));
+      place = subst (λ m. Cases (c .cheapest .result) (Unit {0}) (λ v. v < m)) (c .as-slice-2 .ensures .len ∙ c .pre .made .rests) (within-by (g .Cost·Cost .kind) _ _ _ (c .cheapest .result) (c .cheapest .ensures []));
       nearest = nearest-lent (g .Cost·Cost .kind) (g .N·Network .means (c .args .net .now)) (state-of (c .args .self .now)) (c .args .from) (c .pre .place) _
           (c .places-places .result) _ _ _ (tables (c .distances .last .rows) (c .distances .last .seen) (c .distances .last .via)) n (c .as-slice .ensures .value) (c .as-slice-2 .ensures .value)
-          (ap length (sym (c .as-slice-2 .ensures .value)) ∙ c .as-slice-2 .ensures .len ∙ c .pre .made .rests) (c .as-slice-3 .ensures .value) (ap₂ (λ x y. tables (c .distances .last .rows) x y) (sym seen) (sym via)) (c .target .result) (c .distances .result) (c .distances .ensures .found) (c .target .ensures);
+          (ap length (sym (c .as-slice-2 .ensures .value)) ∙ c .as-slice-2 .ensures .len ∙ c .pre .made .rests) (c .as-slice-3 .ensures .value) (ap₂ (λ x y. tables (c .distances .last .rows) x y) (sym seen) (sym via)) (c .cheapest .result) (c .distances .result) (c .distances .ensures .found) (c .cheapest .ensures);
     }
