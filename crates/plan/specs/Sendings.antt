@@ -28,7 +28,7 @@ pub record Smaller (have want : ℤ) (x : ℕ) : Type 0 where
 abbrev pub Asked : List ℤ → ℕ → ℕ → ℕ → Type 0
 Asked rests u v x = pos 0 <ℤ getD rests u (pos 0) → getD rests u (pos 0) ≤ℤ pos 1000000000 → getD rests v (pos 0) <ℤ pos 0 → Smaller (getD rests u (pos 0)) (getD rests v (pos 0)) x
 
--- x more at one place, and less at another, unless that is beyond what can be held
+-- x more at v and x less at u, if these are the rests of an open plan
 abbrev pub Moved : List ℤ → ℕ → ℕ → ℕ → List ℤ → Type 0
 Moved rests v u x rests′ = getD rests v (pos 0) ≤ℤ pos 1000000000 → negℤ (pos 1000000000) ≤ℤ getD rests u (pos 0) → rests′ ≡ move rests v u x
 
