@@ -1,3 +1,5 @@
+#![tactic(auto)]
+
 // Many files in one input, for the programs that run cases.
 mod case;
 

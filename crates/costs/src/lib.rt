@@ -1,3 +1,5 @@
+#![tactic(auto)]
+
 mod cost;
 
 pub use cost::{Cost, HEAVIEST, LIGHT};

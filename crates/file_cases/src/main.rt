@@ -1,4 +1,6 @@
 // Lists, checks and copies many files from standard input: a case is a byte of form (0 job, 1 grid), a length in four bytes and the file.
+#![tactic(auto)]
+
 mod ends;
 #[cfg(test)]
 mod tests;

@@ -1,4 +1,6 @@
 // Runs a job file from standard input: a line for each call, or the line of the file's first fault.
+#![tactic(auto)]
+
 use jobs::run_job;
 use std::io::Read;
 

@@ -1,3 +1,5 @@
+#![tactic(auto)]
+
 mod ends;
 mod grid;
 mod marks;

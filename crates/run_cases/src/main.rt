@@ -1,4 +1,6 @@
 // Runs many job and grid files from standard input, one case after the other.
+#![tactic(auto)]
+
 use cases::{Case, first_case};
 use jobs::{Form, run_job};
 use std::io::Read;

@@ -1,4 +1,6 @@
 // Lists a job file, a grid file or the network of a job file from standard input, in words.
+#![tactic(auto)]
+
 use anyhow::anyhow;
 use jobs::{FileSection, Form, list_file, list_network};
 use std::alloc::{AllocError, Global};
