@@ -1,5 +1,5 @@
 -- Whether a number stands in the front of a list, as a loop over it finds out.
-use Rattle.std.proofs.Common.{◌≡◌, ℕ, zero, suc, ◌+◌, ◌<◌, ◌≤◌, Bool, true, false, ◌||◌, eqb, List, [], ◌∷◌, ◌++◌, length, get_or, take, sym, refl, ap, ◌∙◌, subst, arith}
+use Rattle.std.proofs.Common.{◌≡◌, ℕ, zero, suc, ◌+◌, ◌<◌, Bool, true, false, ◌||◌, eqb, List, [], ◌∷◌, ◌++◌, length, get_or, take, refl, ap, ◌∙◌, arith}
 use borrow.Author.Tests.{both_ways}
 use Rattle.std.proofs.lemmas.List.{take_more}
 use Rattle.networks.specs.Layers.{has}

@@ -6,4 +6,4 @@ use Rattle.networks.proofs.grid.apart.Goals as goal
 pub returns : goal.returns
 returns c =
     let f : SFits w64 c.from.result = search rules in
-    c.read.ensures ∙ ap whole_kind.reads (to_z-of_z w64 c.from.result f ∙ c.from.ensures ∙ ap pos c.abs-diff.ensures)
+    c.read.ensures ∙ ap whole_kind.reads (to_z-of_z w64 c.from.result f ∙ c.from.ensures ∙ ap pos c.abs_diff.ensures)

@@ -6,8 +6,8 @@ use Rattle.networks.proofs.table.WayTableNetwork.cost.Goals as goal
 
 pub returns-then-k-self : goal.returns-then-k-self
 returns-then-k-self g c =
-    sym (ap cost_of (nth_map_past (record_way g.row.C-Cost.kind.reads) c.args.self.now.records.now c.args.k c.if-k-self.true))
+    sym (ap cost_of (nth_map_past (record_way g.C.Cost.kind.reads) c.args.self.now.records.now c.args.k c.if-k-self.true))
 
 pub returns : goal.returns
 returns g c =
-    ap (λ y. Some y) c.read.ensures ∙ sym (ap cost_of (nth_map_at (record_way g.row.C-Cost.kind.reads) c.args.self.now.records.now c.args.k c.index-self-k.result c.if-k-self.false))
+    ap (λ y. Some y) c.read.ensures ∙ sym (ap cost_of (nth_map_at (record_way g.C.Cost.kind.reads) c.args.self.now.records.now c.args.k c.index-self-k.result c.if-k-self.false))

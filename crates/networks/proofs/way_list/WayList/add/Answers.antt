@@ -1,4 +1,4 @@
-use Rattle.std.proofs.Common.{◌≡◌, ◌<◌, ◌≤◌, length, take, sym, inr, arith, rules}
+use Rattle.std.proofs.Common.{◌<◌, length, sym, inr, arith, rules}
 use Rattle.std.proofs.lemmas.List.{take_more_set, length-take-le}
 use Rattle.networks.proofs.way_list.WayList.add.Goals as goal
 
