@@ -24,7 +24,7 @@ pub(crate) fn trace<N: Network>(
     amount: u32,
 ) -> Option<Trail>
     requires { length (N.Network.means net.now).ways ≤ length loads.now }
-    ensures { Trails Cost-as-Cost.kind (N.Network.means net.now) loads.now via.now from to amount path.new result }
+    ensures { Trails N.Cost.Cost.kind (N.Network.means net.now) loads.now via.now from to amount path.new result }
 {
     let mut at = to;
     let mut left = amount;

@@ -10,8 +10,8 @@ impl<N: Network> Plan<N> {
     pub fn book(&mut self, from: usize, to: usize, amount: u32) -> Result<(), Refusal>
         ensures net { self.new.net ≡ self.old.net }
         ensures refused { IfRefused result (self.new ≡ self.old) }
-        ensures run { (work : ℕ) → Called Cost-as-Cost.kind (N.Network.means self.old.net) self.old (Book from to amount) work (booking result) self.new }
-        ensures law { (work : ℕ) → CalledLawfully Cost-as-Cost.kind (N.Network.means self.old.net) self.old (Book from to amount) work (booking result) self.new }
+        ensures run { (work : ℕ) → Called N.Cost.Cost.kind (N.Network.means self.old.net) self.old (Book from to amount) work (booking result) self.new }
+        ensures law { (work : ℕ) → CalledLawfully N.Cost.Cost.kind (N.Network.means self.old.net) self.old (Book from to amount) work (booking result) self.new }
     {
         if !self.opened {
             return Err(Refusal::NotOpen);

@@ -25,7 +25,7 @@ fn way_fault<C: Cost>(places: usize, k: usize, ends: Ends, cost: C) -> Option<Re
 
 // The first fault of the ways, the lowest way first.
 fn ways_fault<N: Network>(net: &N) -> Option<Refusal>
-    ensures { result ≡ fault_of_ways Cost-as-Cost.kind (N.Network.means net.now).places 0 (N.Network.means net.now).ways }
+    ensures { result ≡ fault_of_ways N.Cost.Cost.kind (N.Network.means net.now).places 0 (N.Network.means net.now).ways }
 {
     let places = net.places();
     for k in 0..net.ways() {
@@ -44,7 +44,7 @@ fn ways_fault<N: Network>(net: &N) -> Option<Refusal>
 
 // The first fault of a network, if it has one.
 pub(crate) fn fault_of_net<N: Network>(net: &N) -> Option<Refusal>
-    ensures { result ≡ net_fault Cost-as-Cost.kind (N.Network.means net.now) }
+    ensures { result ≡ net_fault N.Cost.Cost.kind (N.Network.means net.now) }
 {
     let places = net.places();
     if places == 0 || places > 1024 {

@@ -66,7 +66,7 @@ impl Table {
         requires made { MadeFor (N.Network.means net.now) self.old }
         requires places { (from < (N.Network.means net.now).places) × (to < (N.Network.means net.now).places) }
         ensures long { AsLong self.old self.new }
-        ensures sent { Dispatched Cost-as-Cost.kind (N.Network.means net.now) self.old from to result (state_of self.new) }
+        ensures sent { Dispatched N.Cost.Cost.kind (N.Network.means net.now) self.old from to result (state_of self.new) }
     {
         let asked = self.asked(from, to);
         let path = self.path.as_mut_slice();

@@ -6,14 +6,14 @@ use networks::Network;
 
 // What holds after every list of calls.
 pub fn law_stands<N: Network>(net: &N) -> u8
-    ensures { Law Cost-as-Cost.kind (N.Network.means net.now) }
+    ensures { Law N.Cost.Cost.kind (N.Network.means net.now) }
 {
     0
 }
 
 // The rules of the calls can be kept, and determine each answer up to the route.
 pub fn determined_stands<N: Network>(net: &N) -> u8
-    ensures { Determined Cost-as-Cost.kind (N.Network.means net.now) }
+    ensures { Determined N.Cost.Cost.kind (N.Network.means net.now) }
 {
     0
 }

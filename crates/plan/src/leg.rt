@@ -14,7 +14,7 @@ pub(crate) struct Leg {
 // The leg of a step, if the step has room.
 pub(crate) fn leg_of<N: Network>(net: &N, loads: &[u32], step: Step) -> Option<Leg>
     requires { length (N.Network.means net.now).ways ≤ length loads.now }
-    ensures { Begins Cost-as-Cost.kind (N.Network.means net.now) loads.now step result }
+    ensures { Begins N.Cost.Cost.kind (N.Network.means net.now) loads.now step result }
 {
     match step {
         Step::Ahead(k) => {

@@ -27,7 +27,7 @@ fn ahead<N: Network>(net: &N, loads: &[u32], k: usize, marks: &mut [u8]) -> bool
     requires loaded { k < length loads.now }
     requires inside { Inside (N.Network.means net.now) }
     requires long { length marks.old ≡ (N.Network.means net.now).places }
-    ensures { Spread Cost-as-Cost.kind (N.Network.means net.now) loads.now (λ s. s ≡ Ahead k)
+    ensures { Spread N.Cost.Cost.kind (N.Network.means net.now) loads.now (λ s. s ≡ Ahead k)
         marks.old marks.new result }
 {
     let Some(ends) = net.way(k) else {
@@ -44,7 +44,7 @@ fn back<N: Network>(net: &N, loads: &[u32], k: usize, marks: &mut [u8]) -> bool
     requires loaded { k < length loads.now }
     requires inside { Inside (N.Network.means net.now) }
     requires long { length marks.old ≡ (N.Network.means net.now).places }
-    ensures { Spread Cost-as-Cost.kind (N.Network.means net.now) loads.now (λ s. s ≡ Back k)
+    ensures { Spread N.Cost.Cost.kind (N.Network.means net.now) loads.now (λ s. s ≡ Back k)
         marks.old marks.new result }
 {
     let Some(ends) = net.way(k) else {
@@ -61,7 +61,7 @@ fn sweep<N: Network>(net: &N, loads: &[u32], marks: &mut [u8]) -> bool
     requires loaded { length (N.Network.means net.now).ways ≤ length loads.now }
     requires inside { Inside (N.Network.means net.now) }
     requires long { length marks.old ≡ (N.Network.means net.now).places }
-    ensures { Spread Cost-as-Cost.kind (N.Network.means net.now) loads.now (λ s. Unit {0})
+    ensures { Spread N.Cost.Cost.kind (N.Network.means net.now) loads.now (λ s. Unit {0})
         marks.old marks.new result }
 {
     let mut changed = false;
@@ -78,7 +78,7 @@ fn sweeps<N: Network>(net: &N, loads: &[u32], marks: &mut [u8], limit: usize)
     requires loaded { length (N.Network.means net.now).ways ≤ length loads.now }
     requires inside { Inside (N.Network.means net.now) }
     requires long { length marks.old ≡ (N.Network.means net.now).places }
-    ensures { Spreads Cost-as-Cost.kind (N.Network.means net.now) loads.now limit
+    ensures { Spreads N.Cost.Cost.kind (N.Network.means net.now) loads.now limit
         marks.old marks.new }
 {
     for _i in 0..limit {
@@ -94,7 +94,7 @@ fn mark_from<N: Network>(net: &N, loads: &[u32], marks: &mut [u8], from: usize)
     requires inside { Inside (N.Network.means net.now) }
     requires long { length marks.old ≡ (N.Network.means net.now).places }
     requires within { from < (N.Network.means net.now).places }
-    ensures { Tells Cost-as-Cost.kind (N.Network.means net.now) loads.now from marks.new }
+    ensures { Tells N.Cost.Cost.kind (N.Network.means net.now) loads.now from marks.new }
 {
     marks.fill(0);
     marks[from] = 1;
@@ -107,7 +107,7 @@ pub(crate) fn mark_reach<N: Network>(net: &N, loads: &[u32], marks: &mut [u8], f
     requires inside { Inside (N.Network.means net.now) }
     requires long { (N.Network.means net.now).places ≤ length marks.old }
     requires within { from < (N.Network.means net.now).places }
-    ensures { Marked Cost-as-Cost.kind (N.Network.means net.now) loads.now from
+    ensures { Marked N.Cost.Cost.kind (N.Network.means net.now) loads.now from
         marks.old marks.new }
 {
     let places = net.places();

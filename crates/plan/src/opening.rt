@@ -12,7 +12,7 @@ use std::alloc::{AllocError, Global};
 impl<N: Network + Drop> Plan<N> {
     // A new plan over the network. All its tables are made now.
     pub fn new(heap: Global, net: N) -> Result<Plan<N>, AllocError>
-        ensures { IfOk result (λ p. (p.net ≡ net) × Runs Cost-as-Cost.kind (N.Network.means net) [] p) }
+        ensures { IfOk result (λ p. (p.net ≡ net) × Runs N.Cost.Cost.kind (N.Network.means net) [] p) }
     {
         let table = Table::new(heap, net.places().min(1024), net.ways().min(3000))?;
         Ok(Plan {

@@ -12,8 +12,8 @@ impl<N: Network> Plan<N> {
     pub fn reach(&self, place: usize, table: &mut [u8]) -> Result<(), Refusal>
         ensures past { drop (N.Network.means self.now.net).places table.new ≡ drop (N.Network.means self.now.net).places table.old }
         ensures refused { IfRefused result (table.new ≡ table.old) }
-        ensures reaches { OfRun Cost-as-Cost.kind (N.Network.means self.now.net) self.now
-            (λ s. Reaches Cost-as-Cost.kind (N.Network.means self.now.net) s place table.old result table.new) }
+        ensures reaches { OfRun N.Cost.Cost.kind (N.Network.means self.now.net) self.now
+            (λ s. Reaches N.Cost.Cost.kind (N.Network.means self.now.net) s place table.old result table.new) }
     {
         if !self.usable() {
             return Err(Refusal::NotOpen);

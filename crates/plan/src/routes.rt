@@ -11,8 +11,8 @@ use networks::{Network, Refusal};
 impl<N: Network> Plan<N> {
     // Whether the plan is open. The network passed the checks then, and is asked again, because its type does not say so.
     pub(crate) fn usable(&self) -> bool
-        ensures { MatchBool result (Usable Cost-as-Cost.kind (N.Network.means self.now.net) self.now)
-            (NeverOpened Cost-as-Cost.kind (N.Network.means self.now.net) self.now) }
+        ensures { MatchBool result (Usable N.Cost.Cost.kind (N.Network.means self.now.net) self.now)
+            (NeverOpened N.Cost.Cost.kind (N.Network.means self.now.net) self.now) }
     {
         if !self.opened {
             return false;

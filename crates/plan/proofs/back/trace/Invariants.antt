@@ -5,4 +5,4 @@ use Rattle.plan.proofs.back.trace.Given as goal
 
 abbrev pub invariant-loop-i : goal.invariant-loop-i
 invariant-loop-i g l =
-    SoFarBy g.Cost.Cost.kind (g.N.Network.means l.net) l.loads l.via l.from l.to l.amount (on_path l.i l.path) l.at l.left
+    SoFarBy g.N.Cost.Cost.kind (g.N.Network.means l.net) l.loads l.via l.from l.to l.amount (on_path l.i l.path) l.at l.left

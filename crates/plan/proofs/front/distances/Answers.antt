@@ -5,15 +5,15 @@ use Rattle.plan.specs.Searches.{Searched}
 use Rattle.plan.proofs.Fronting.{front_length, front_level, fronts, past_after}
 use Rattle.plan.proofs.front.distances.Goals as goal
 
-pub from-place-requires : goal.from-place-requires
-from-place-requires g c =
+pub from_place-requires : goal.from_place-requires
+from_place-requires g c =
     let n = c.args.places in
     let t : Work _ = tables c.args.rows.now c.args.seen.now c.args.via.now in
     let kept = front_length c.args.rows.now n c.requires.long.rows in
     record {
       loaded = c.requires.loaded;
       level = front_level t n c.requires.long;
-      fit = subst (λ k. Fits g.Cost.Cost.kind k (g.N.Network.means c.args.net.now).ways) (sym kept) c.requires.fit;
+      fit = subst (λ k. Fits g.N.Cost.Cost.kind k (g.N.Network.means c.args.net.now).ways) (sym kept) c.requires.fit;
       few = c.requires.few;
       short = c.requires.short;
       within = subst (λ k. c.args.from < k) (sym kept) c.requires.within;
@@ -23,12 +23,12 @@ pub returns : goal.returns
 returns g c =
     let n = c.args.places in
     let t : Work _ = tables c.args.rows.now c.args.seen.now c.args.via.now in
-    let after : Work _ = tables c.from-place.new.rows c.from-place.new.seen c.from-place.new.via in
+    let after : Work _ = tables c.from_place.new.rows c.from_place.new.seen c.from_place.new.via in
     let S : (ℕ → Type 0) → Work _ → Type 0 = λ starts y.
-    Searched g.Cost.Cost.kind (g.N.Network.means c.args.net.now) c.args.loads.now starts n y c.from-place.result in
+    Searched g.N.Cost.Cost.kind (g.N.Network.means c.args.net.now) c.args.loads.now starts n y c.from_place.result in
     let kept = front_length c.args.rows.now n c.requires.long.rows in
     record {
-      found = fronts t n c.requires.long (S (λ v. v ≡ c.args.from)) after c.from-place.auto.rows c.from-place.auto.seen c.from-place.auto.via
-          c.from-place.ensures;
-      past = past_after c.args.rows.now n c.requires.long.rows c.from-place.new.rows c.from-place.auto.rows;
+      found = fronts t n c.requires.long (S (λ v. v ≡ c.args.from)) after c.from_place.auto.rows c.from_place.auto.seen c.from_place.auto.via
+          c.from_place.ensures;
+      past = past_after c.args.rows.now n c.requires.long.rows c.from_place.new.rows c.from_place.auto.rows;
     }

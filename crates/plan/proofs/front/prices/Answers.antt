@@ -5,15 +5,15 @@ use Rattle.plan.specs.Searches.{Searched}
 use Rattle.plan.proofs.Fronting.{front_length, front_level, fronts, past_after}
 use Rattle.plan.proofs.front.prices.Goals as goal
 
-pub from-everywhere-requires : goal.from-everywhere-requires
-from-everywhere-requires g c =
+pub from_everywhere-requires : goal.from_everywhere-requires
+from_everywhere-requires g c =
     let n = c.args.places in
     let t : Work _ = tables c.args.rows.now c.args.seen.now c.args.via.now in
     let kept = front_length c.args.rows.now n c.requires.long.rows in
     record {
       loaded = c.requires.loaded;
       level = front_level t n c.requires.long;
-      fit = subst (λ k. Fits g.Cost.Cost.kind k (g.N.Network.means c.args.net.now).ways) (sym kept) c.requires.fit;
+      fit = subst (λ k. Fits g.N.Cost.Cost.kind k (g.N.Network.means c.args.net.now).ways) (sym kept) c.requires.fit;
       few = c.requires.few;
       short = c.requires.short;
     }
@@ -22,12 +22,12 @@ pub returns : goal.returns
 returns g c =
     let n = c.args.places in
     let t : Work _ = tables c.args.rows.now c.args.seen.now c.args.via.now in
-    let after : Work _ = tables c.from-everywhere.new.rows c.from-everywhere.new.seen c.from-everywhere.new.via in
+    let after : Work _ = tables c.from_everywhere.new.rows c.from_everywhere.new.seen c.from_everywhere.new.via in
     let S : (ℕ → Type 0) → Work _ → Type 0 = λ starts y.
-    Searched g.Cost.Cost.kind (g.N.Network.means c.args.net.now) c.args.loads.now starts n y c.from-everywhere.result in
+    Searched g.N.Cost.Cost.kind (g.N.Network.means c.args.net.now) c.args.loads.now starts n y c.from_everywhere.result in
     let kept = front_length c.args.rows.now n c.requires.long.rows in
     record {
-      found = fronts t n c.requires.long (S (λ v. v < n)) after c.from-everywhere.auto.rows c.from-everywhere.auto.seen c.from-everywhere.auto.via
-          (subst (λ k. S (λ v. v < k) after) kept c.from-everywhere.ensures);
-      past = past_after c.args.rows.now n c.requires.long.rows c.from-everywhere.new.rows c.from-everywhere.auto.rows;
+      found = fronts t n c.requires.long (S (λ v. v < n)) after c.from_everywhere.auto.rows c.from_everywhere.auto.seen c.from_everywhere.auto.via
+          (subst (λ k. S (λ v. v < k) after) kept c.from_everywhere.ensures);
+      past = past_after c.args.rows.now n c.requires.long.rows c.from_everywhere.new.rows c.from_everywhere.auto.rows;
     }

@@ -2,4 +2,4 @@ use Rattle.plan.proofs.Determined.{determined}
 use Rattle.plan.proofs.laws.determined_stands.Goals as goal
 
 pub returns : goal.returns
-returns g c = determined g.Cost.Cost.kind (g.N.Network.means c.args.net.now)
+returns g c = determined g.N.Cost.Cost.kind (g.N.Network.means c.args.net.now)

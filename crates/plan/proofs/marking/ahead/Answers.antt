@@ -5,18 +5,18 @@ use Rattle.plan.proofs.Marked.{way_by, spread_none, by_step}
 use Rattle.plan.proofs.Trying.{way_unknown, known_limit, forth_only}
 use Rattle.plan.proofs.marking.ahead.Goals as goal
 
-pub returns-in-default : goal.returns-in-default
-returns-in-default g c =
-    let K = g.Cost.Cost.kind in
+pub returns-in_default : goal.returns-in_default
+returns-in_default g c =
+    let K = g.N.Cost.Cost.kind in
     let net = g.N.Network.means c.args.net.now in
     spread_none K net c.args.loads.now c.args.marks.now
     (λ s u v x r gives e.
     let f = forth_only K net c.args.loads.now c.args.k gives e in
-    way_unknown _ f.way c.in-default.ensures f.known)
+    way_unknown _ f.way c.in_default.ensures f.known)
 
 pub returns-then-loads-k : goal.returns-then-loads-k
 returns-then-loads-k g c =
-    let K = g.Cost.Cost.kind in
+    let K = g.N.Cost.Cost.kind in
     let net = g.N.Network.means c.args.net.now in
     spread_none K net c.args.loads.now c.args.marks.now
     (λ s u v x r gives e.
@@ -32,4 +32,4 @@ extend-requires g c =
 pub returns : goal.returns
 returns g c =
     let w = way_by _ c.in-Some.ends c.in-Some.ensures in
-    by_step g.Cost.Cost.kind (g.N.Network.means c.args.net.now) c.args.loads.now (forth c.args.k _ w.1 c.if-loads-k.false) c.extend.ensures
+    by_step g.N.Cost.Cost.kind (g.N.Network.means c.args.net.now) c.args.loads.now (forth c.args.k _ w.1 c.if-loads-k.false) c.extend.ensures

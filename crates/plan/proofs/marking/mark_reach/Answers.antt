@@ -4,8 +4,8 @@ use Rattle.plan.proofs.Fronting.{front_length}
 use Rattle.plan.proofs.Marked.{marked_by}
 use Rattle.plan.proofs.marking.mark_reach.Goals as goal
 
-pub mark-from-requires : goal.mark-from-requires
-mark-from-requires g c =
+pub mark_from-requires : goal.mark_from-requires
+mark_from-requires g c =
     record {
       loaded = c.requires.loaded;
       inside = c.requires.inside;
@@ -15,5 +15,5 @@ mark-from-requires g c =
 
 pub returns : goal.returns
 returns g c =
-    marked_by g.Cost.Cost.kind (g.N.Network.means c.args.net.now) c.args.loads.now c.args.from c.places-places.result c.args.marks.now c.mark-from.new.marks
-    c.places-places.ensures c.requires.long c.mark-from.auto.marks c.mark-from.ensures
+    marked_by g.N.Cost.Cost.kind (g.N.Network.means c.args.net.now) c.args.loads.now c.args.from c.places-places.result c.args.marks.now c.mark_from.new.marks
+    c.places-places.ensures c.requires.long c.mark_from.auto.marks c.mark_from.ensures

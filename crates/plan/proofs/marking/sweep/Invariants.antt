@@ -6,4 +6,4 @@ use Rattle.plan.proofs.marking.sweep.Given as goal
 
 abbrev pub invariant-loop-k : goal.invariant-loop-k
 invariant-loop-k g l =
-    Spread g.Cost.Cost.kind (g.N.Network.means l.net) l.loads (λ s. way_of s < l.k) l.initial.marks l.marks l.changed
+    Spread g.N.Cost.Cost.kind (g.N.Network.means l.net) l.loads (λ s. way_of s < l.k) l.initial.marks l.marks l.changed

@@ -21,8 +21,8 @@ returns-then-not-seen-v g c =
           (λ x w. not_seen g.C.Cost.kind c.args.rests.now c.args.rows.now c.args.seen.now via c.args.v x c.if-not-seen-v.true w) p;
     }
 
-pub returns-in-default : goal.returns-in-default
-returns-in-default g c =
+pub returns-in_default : goal.returns-in_default
+returns-in_default g c =
     let n : get_or c.args.rests.now c.args.v (pos 0) <ℤ pos 0 = search rules in
     let l : c.args.v < length c.args.rows.now = search rules in
     let x = some_value g.C.Cost.kind c.args.rows.now c.args.v l in
@@ -31,7 +31,7 @@ returns-in-default g c =
       picked = λ via p.
           first g.C.Cost.kind c.args.rests.now c.args.rows.now c.args.seen.now via c.args.v x.0
           (wants_by g.C.Cost.kind c.args.rests.now c.args.rows.now c.args.seen.now via c.args.v x.0 n c.if-not-seen-v.false x.1)
-          (subst (Picked g.C.Cost.kind c.args.rests.now (tables c.args.rows.now c.args.seen.now via) c.args.v) c.in-default.is p);
+          (subst (Picked g.C.Cost.kind c.args.rests.now (tables c.args.rows.now c.args.seen.now via) c.args.v) c.in_default.is p);
     }
 
 pub returns-then-cheaper : goal.returns-then-cheaper

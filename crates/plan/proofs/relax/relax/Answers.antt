@@ -12,13 +12,13 @@ returns-then-not-seen-from g c =
     unseen g.C.Cost.kind t c.args.step c.args.from c.args.to c.args.cost c.if-not-seen-from.true
 
 -- the sum is refused only if it is too heavy
-pub returns-in-default : goal.returns-in-default
-returns-in-default g c =
+pub returns-in_default : goal.returns-in_default
+returns-in_default g c =
     let K = g.C.Cost.kind in
     let t : Work _ = record { rows = c.args.rows.now; seen = c.args.seen.now; via = c.args.via.now } in
     let heavy = read_at (weights K) t c.args.from c.index-rows-from.result c.requires.within.0 c.index-rows-from.is c.if-not-seen-from.false in
     let room = c.requires.room (weights K c.index-rows-from.result) heavy in
-    absurd (omega (arith, ap K.weighs c.read.ensures, c.in-default.ensures, room))
+    absurd (omega (arith, ap K.weighs c.read.ensures, c.in_default.ensures, room))
 
 pub returns-then-not-improves : goal.returns-then-not-improves
 returns-then-not-improves g c =

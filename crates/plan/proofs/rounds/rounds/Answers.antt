@@ -6,12 +6,12 @@ use Rattle.plan.proofs.rounds.rounds.Goals as goal
 
 pub loop-i-init : goal.loop-i-init
 loop-i-init g c =
-    ran_none g.Cost.Cost.kind (g.N.Network.means c.args.net.now) c.args.loads.now
+    ran_none g.N.Cost.Cost.kind (g.N.Network.means c.args.net.now) c.args.loads.now
     (record { rows = c.args.rows.now; seen = c.args.seen.now; via = c.args.via.now })
 
 pub scan-requires : goal.scan-requires
 scan-requires g c =
-    let K = g.Cost.Cost.kind in
+    let K = g.N.Cost.Cost.kind in
     let ways = (g.N.Network.means c.args.net.now).ways in
     let kept : length c.loop-i.rows ≡ length c.args.rows.now = c.loop-i.auto.rows in
     record {
@@ -30,7 +30,7 @@ scan-requires g c =
 
 pub returns-then-not-scan : goal.returns-then-not-scan
 returns-then-not-scan g c =
-    rounds_early g.Cost.Cost.kind (g.N.Network.means c.args.net.now) c.args.loads.now c.loop-i.-i c.args.limit
+    rounds_early g.N.Cost.Cost.kind (g.N.Network.means c.args.net.now) c.args.loads.now c.loop-i.-i c.args.limit
     (record { rows = c.args.rows.now; seen = c.args.seen.now; via = c.args.via.now })
     (record { rows = c.loop-i.rows; seen = c.loop-i.seen; via = c.loop-i.via })
     (record { rows = c.scan.new.rows; seen = c.scan.new.seen; via = c.scan.new.via })
@@ -38,7 +38,7 @@ returns-then-not-scan g c =
 
 pub loop-i-preserved : goal.loop-i-preserved
 loop-i-preserved g c =
-    ran_more g.Cost.Cost.kind (g.N.Network.means c.args.net.now) c.args.loads.now c.loop-i.-i
+    ran_more g.N.Cost.Cost.kind (g.N.Network.means c.args.net.now) c.args.loads.now c.loop-i.-i
     (record { rows = c.args.rows.now; seen = c.args.seen.now; via = c.args.via.now })
     (record { rows = c.loop-i.rows; seen = c.loop-i.seen; via = c.loop-i.via })
     (record { rows = c.scan.new.rows; seen = c.scan.new.seen; via = c.scan.new.via })
@@ -46,7 +46,7 @@ loop-i-preserved g c =
 
 pub returns : goal.returns
 returns g c =
-    let K = g.Cost.Cost.kind in
+    let K = g.N.Cost.Cost.kind in
     let net = g.N.Network.means c.args.net.now in
     let before : Work _ = record { rows = c.args.rows.now; seen = c.args.seen.now; via = c.args.via.now } in
     let after : Work _ = record { rows = c.loop-i.rows; seen = c.loop-i.seen; via = c.loop-i.via } in

@@ -9,17 +9,17 @@ use Rattle.plan.proofs.runs.run_calls.Goals as goal
 
 pub loop-i-init : goal.loop-i-init
 loop-i-init g c =
-    let new = c.in-ok-plan.ensures in (
+    let new = c.in_ok-plan.ensures in (
       refl,
-      sym c.in-ok-answers.answers.ok.0 ∙ c.in-ok-answers.ensures.len,
+      sym c.in_ok-answers.answers.ok.0 ∙ c.in_ok-answers.ensures.len,
       refl,
-      subst (λ n. Runs g.Cost.Cost.kind (g.N.Network.means n) _ c.in-ok-plan.plan) (sym new.0) new.1,
+      subst (λ n. Runs g.N.Cost.Cost.kind (g.N.Network.means n) _ c.in_ok-plan.plan) (sym new.0) new.1,
     )
 
 pub loop-i-preserved : goal.loop-i-preserved
 loop-i-preserved g c =
     let inv = c.loop-i.invariant in
-    let kind = g.Cost.Cost.kind in
+    let kind = g.N.Cost.Cost.kind in
     let in-range = c.loop-i-test.true in
     let long = inv.1 in
     let before = events (length c.args.work.now) c.args.calls.now (vec_items c.loop-i.answers) c.loop-i.i in
@@ -27,7 +27,7 @@ loop-i-preserved g c =
       c.perform.ensures.net ∙ inv.0,
       length-set _ _ _ ∙ inv.1,
       subst (λ n. drop (g.N.Network.means n).places c.perform.new.work ≡ drop (g.N.Network.means n).places c.loop-i.work) inv.0 c.perform.ensures.past ∙ inv.2,
-      subst (λ h. Runs kind (g.N.Network.means c.in-ok-plan.plan.net) h c.perform.new.self)
+      subst (λ h. Runs kind (g.N.Network.means c.in_ok-plan.plan.net) h c.perform.new.self)
           (sym (one_more (length c.args.work.now) c.args.calls.now c.loop-i.answers.items c.loop-i.i c.perform.result _ refl (omega arith)))
           (subst₂ (λ n w. Runs kind (g.N.Network.means n) (record { call = get_or c.args.calls.now c.loop-i.i Open; work = w; answer = c.perform.result } ∷ before) c.perform.new.self)
           inv.0 c.loop-i.auto.work run),
@@ -36,8 +36,8 @@ loop-i-preserved g c =
 pub returns : goal.returns
 returns g c =
     let inv = c.loop-i.invariant in
-    let new = c.in-ok-plan.ensures in
-    let kind = g.Cost.Cost.kind in
+    let new = c.in_ok-plan.ensures in
+    let kind = g.N.Cost.Cost.kind in
     let left = c.loop-i-test.false in
     let kept = c.loop-i.auto.i-end in
     let all : c.loop-i.i ≡ length c.args.calls.now = omega arith in

@@ -8,11 +8,11 @@ use Rattle.plan.proofs.scan.scan.Goals as goal
 pub loop-k-init : goal.loop-k-init
 loop-k-init g c =
     let t : Work _ = record { rows = c.args.rows.now; seen = c.args.seen.now; via = c.args.via.now } in
-    swept_none g.Cost.Cost.kind 0 t (λ s u v x y d e. absurd (omega (arith, d.0)))
+    swept_none g.N.Cost.Cost.kind 0 t (λ s u v x y d e. absurd (omega (arith, d.0)))
 
 pub ahead-forth-requires : goal.ahead-forth-requires
 ahead-forth-requires g c =
-    let K = g.Cost.Cost.kind in
+    let K = g.N.Cost.Cost.kind in
     let ways = (g.N.Network.means c.args.net.now).ways in
     let kept : length c.loop-k.rows ≡ length c.args.rows.now = c.loop-k.auto.rows in
     record {
@@ -27,7 +27,7 @@ ahead-forth-requires g c =
 
 pub back-behind-requires : goal.back-behind-requires
 back-behind-requires g c =
-    let K = g.Cost.Cost.kind in
+    let K = g.N.Cost.Cost.kind in
     let ways = (g.N.Network.means c.args.net.now).ways in
     let kept : length c.ahead-forth.new.rows ≡ length c.args.rows.now = c.ahead-forth.auto.rows ∙ c.loop-k.auto.rows in
     record {
@@ -48,7 +48,7 @@ back-behind-requires g c =
 
 pub loop-k-preserved : goal.loop-k-preserved
 loop-k-preserved g c =
-    let K = g.Cost.Cost.kind in
+    let K = g.N.Cost.Cost.kind in
     swept_within K (2000000 * c.loop-k.k + 1000000 + 1000000) (2000000 * (c.loop-k.k + 1)) (omega arith)
     (sweep_more K (g.N.Network.means c.args.net.now) c.args.loads.now c.loop-k.k (2000000 * c.loop-k.k)
     (record { rows = c.args.rows.now; seen = c.args.seen.now; via = c.args.via.now })
@@ -60,7 +60,7 @@ loop-k-preserved g c =
 
 pub returns : goal.returns
 returns g c =
-    let K = g.Cost.Cost.kind in
+    let K = g.N.Cost.Cost.kind in
     let net = g.N.Network.means c.args.net.now in
     let n = 2000000 * length net.ways in
     sweep_all K net c.args.loads.now c.loop-k.k (omega (arith, c.loop-k-test.false, c.ways-k-end.ensures)) n

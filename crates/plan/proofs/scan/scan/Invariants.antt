@@ -5,7 +5,7 @@ use Rattle.plan.proofs.scan.scan.Given as goal
 
 abbrev pub invariant-loop-k : goal.invariant-loop-k
 invariant-loop-k g l =
-    let K = g.Cost.Cost.kind in
+    let K = g.N.Cost.Cost.kind in
     let left = Left K (g.N.Network.means l.net) l.loads in
     Swept K left (Among K l.k left) (2000000 * l.k)
     (record { rows = l.initial.rows; seen = l.initial.seen; via = l.initial.via })

@@ -6,22 +6,22 @@ use Rattle.plan.proofs.search.from_everywhere.Goals as goal
 
 pub rounds-requires : goal.rounds-requires
 rounds-requires g c =
-    let kept : length c.start-all.new.rows ≡ length c.args.rows.now = c.start-all.auto.rows in
+    let kept : length c.start_all.new.rows ≡ length c.args.rows.now = c.start_all.auto.rows in
     record {
       loaded = c.requires.loaded;
       level = record {
-        seen = omega (arith, c.requires.level.seen, c.start-all.auto.rows, c.start-all.auto.seen);
-        via = omega (arith, c.requires.level.via, c.start-all.auto.rows);
+        seen = omega (arith, c.requires.level.seen, c.start_all.auto.rows, c.start_all.auto.seen);
+        via = omega (arith, c.requires.level.via, c.start_all.auto.rows);
       };
-      fit = subst (λ n. Fits g.Cost.Cost.kind n (g.N.Network.means c.args.net.now).ways) (sym kept) c.requires.fit;
+      fit = subst (λ n. Fits g.N.Cost.Cost.kind n (g.N.Network.means c.args.net.now).ways) (sym kept) c.requires.fit;
       few = c.requires.few;
       short = c.requires.short;
-      room = λ v w e. omega (arith, (c.start-all.ensures c.args.via.now).weight v w e);
+      room = λ v w e. omega (arith, (c.start_all.ensures c.args.via.now).weight v w e);
     }
 
 pub returns : goal.returns
 returns g c =
-    searched g.Cost.Cost.kind (g.N.Network.means c.args.net.now) c.args.loads.now (λ v. v < length c.args.rows.now) c.args.limit
-    (tables c.start-all.new.rows c.start-all.new.seen c.args.via.now)
+    searched g.N.Cost.Cost.kind (g.N.Network.means c.args.net.now) c.args.loads.now (λ v. v < length c.args.rows.now) c.args.limit
+    (tables c.start_all.new.rows c.start_all.new.seen c.args.via.now)
     (tables c.rounds.new.rows c.rounds.new.seen c.rounds.new.via)
-    c.rounds.result (c.start-all.ensures c.args.via.now) c.rounds.ensures
+    c.rounds.result (c.start_all.ensures c.args.via.now) c.rounds.ensures

@@ -10,7 +10,7 @@ returns-then-not-usable g c =
       run = λ h r. r;
       past = refl;
       refused = (refl, refl);
-      prices = λ h r. prices_closed g.Cost.Cost.kind (g.N.Network.means c.args.self.now.net) h c.args.self.now r c.args.table.now (c.if-not-usable.ensures h r);
+      prices = λ h r. prices_closed g.N.Cost.Cost.kind (g.N.Network.means c.args.self.now.net) h c.args.self.now r c.args.table.now (c.if-not-usable.ensures h r);
     }
 
 pub returns-then-table-places : goal.returns-then-table-places
@@ -23,7 +23,7 @@ returns-then-table-places g c =
       run = λ h r. r;
       past = refl;
       refused = (refl, refl);
-      prices = λ h r. prices_short g.Cost.Cost.kind (g.N.Network.means c.args.self.now.net) h c.args.self.now r c.args.table.now c.if-not-usable.ensures.opened (omega arith);
+      prices = λ h r. prices_short g.N.Cost.Cost.kind (g.N.Network.means c.args.self.now.net) h c.args.self.now r c.args.table.now c.if-not-usable.ensures.opened (omega arith);
     }
 
 pub returns : goal.returns
@@ -32,10 +32,10 @@ returns g c =
     let l = c.if-table-places.false in
     record {
       net = refl;
-      state = asked_state c.args.self.now c.price-all.new.self c.price-all.ensures.same;
-      run = asked c.args.self.now c.price-all.new.self c.price-all.ensures.same g.Cost.Cost.kind (g.N.Network.means c.args.self.now.net);
-      past = c.price-all.ensures.past;
+      state = asked_state c.args.self.now c.price_all.new.self c.price_all.ensures.same;
+      run = asked c.args.self.now c.price_all.new.self c.price_all.ensures.same g.N.Cost.Cost.kind (g.N.Network.means c.args.self.now.net);
+      past = c.price_all.ensures.past;
       refused = tt;
-      prices = λ h r. prices_done g.Cost.Cost.kind (g.N.Network.means c.args.self.now.net) h c.args.self.now r c.args.table.now c.if-not-usable.ensures.opened (omega arith) c.price-all.result _
-          c.price-all.ensures.priced;
+      prices = λ h r. prices_done g.N.Cost.Cost.kind (g.N.Network.means c.args.self.now.net) h c.args.self.now r c.args.table.now c.if-not-usable.ensures.opened (omega arith) c.price_all.result _
+          c.price_all.ensures.priced;
     }

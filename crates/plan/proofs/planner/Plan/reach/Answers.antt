@@ -9,7 +9,7 @@ returns-then-not-usable g c =
     record {
       past = refl;
       refused = refl;
-      reaches = λ h r. reach_closed g.Cost.Cost.kind (g.N.Network.means c.args.self.now.net) c.args.self.now c.args.place c.args.table.now (c.if-not-usable.ensures h r);
+      reaches = λ h r. reach_closed g.N.Cost.Cost.kind (g.N.Network.means c.args.self.now.net) c.args.self.now c.args.place c.args.table.now (c.if-not-usable.ensures h r);
     }
 
 pub returns-then-place-places : goal.returns-then-place-places
@@ -17,7 +17,7 @@ returns-then-place-places g c =
     record {
       past = refl;
       refused = refl;
-      reaches = λ h r. reach_no_place g.Cost.Cost.kind (g.N.Network.means c.args.self.now.net) c.args.self.now c.args.place c.args.table.now c.if-not-usable.ensures.opened
+      reaches = λ h r. reach_no_place g.N.Cost.Cost.kind (g.N.Network.means c.args.self.now.net) c.args.self.now c.args.place c.args.table.now c.if-not-usable.ensures.opened
           (omega (arith, c.places-places.ensures, c.if-place-places.true));
     }
 
@@ -27,18 +27,18 @@ returns-then-table-places g c =
     record {
       past = refl;
       refused = refl;
-      reaches = λ h r. reach_short g.Cost.Cost.kind (g.N.Network.means c.args.self.now.net) c.args.self.now c.args.place c.args.table.now c.if-not-usable.ensures.opened
+      reaches = λ h r. reach_short g.N.Cost.Cost.kind (g.N.Network.means c.args.self.now.net) c.args.self.now c.args.place c.args.table.now c.if-not-usable.ensures.opened
           (omega (arith, n, c.if-place-places.false)) (omega (arith, n, c.if-table-places.true));
     }
 
-pub mark-reach-requires : goal.mark-reach-requires
-mark-reach-requires g c =
-    let K = g.Cost.Cost.kind in
+pub mark_reach-requires : goal.mark_reach-requires
+mark_reach-requires g c =
+    let K = g.N.Cost.Cost.kind in
     let net = g.N.Network.means c.args.self.now.net in
     let usable = c.if-not-usable.ensures in
     let n = c.places-places.ensures in
     record {
-      loaded = omega (arith, usable.made.loads, c.as-slice.ensures.len);
+      loaded = omega (arith, usable.made.loads, c.as_slice.ensures.len);
       inside = inside K net (passed K net usable.fair);
       long = omega (arith, n, c.if-table-places.false);
       within = omega (arith, n, c.if-place-places.false);
@@ -48,8 +48,8 @@ pub returns : goal.returns
 returns g c =
     let n = c.places-places.ensures in
     record {
-      past = c.mark-reach.ensures.past;
+      past = c.mark_reach.ensures.past;
       refused = tt;
-      reaches = λ h r. reach_done g.Cost.Cost.kind (g.N.Network.means c.args.self.now.net) c.args.self.now c.args.place c.args.table.now c.if-not-usable.ensures.opened
-          (omega (arith, n, c.if-place-places.false)) (omega (arith, n, c.if-table-places.false)) _ c.mark-reach.new.marks c.as-slice.ensures.value c.mark-reach.ensures;
+      reaches = λ h r. reach_done g.N.Cost.Cost.kind (g.N.Network.means c.args.self.now.net) c.args.self.now c.args.place c.args.table.now c.if-not-usable.ensures.opened
+          (omega (arith, n, c.if-place-places.false)) (omega (arith, n, c.if-table-places.false)) _ c.mark_reach.new.marks c.as_slice.ensures.value c.mark_reach.ensures;
     }

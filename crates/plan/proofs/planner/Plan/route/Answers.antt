@@ -8,7 +8,7 @@ returns-then-not-usable g c =
       net = refl;
       past = refl;
       refused = (refl, refl);
-      run = λ h r. route_closed g.Cost.Cost.kind (g.N.Network.means c.args.self.now.net) h c.args.self.now r _ (c.if-not-usable.ensures h r);
+      run = λ h r. route_closed g.N.Cost.Cost.kind (g.N.Network.means c.args.self.now.net) h c.args.self.now r _ (c.if-not-usable.ensures h r);
     }
 
 pub returns-then-work-places : goal.returns-then-work-places
@@ -19,7 +19,7 @@ returns-then-work-places g c =
       net = refl;
       past = refl;
       refused = (refl, refl);
-      run = λ h r. route_short g.Cost.Cost.kind (g.N.Network.means c.args.self.now.net) h c.args.self.now r _ c.if-not-usable.ensures.opened (omega arith);
+      run = λ h r. route_short g.N.Cost.Cost.kind (g.N.Network.means c.args.self.now.net) h c.args.self.now r _ c.if-not-usable.ensures.opened (omega arith);
     }
 
 pub returns : goal.returns
@@ -30,6 +30,6 @@ returns g c =
       net = refl;
       past = c.route.ensures.past;
       refused = tt;
-      run = λ h r. route_done g.Cost.Cost.kind (g.N.Network.means c.args.self.now.net) h c.args.self.now r _ c.if-not-usable.ensures.opened (omega arith) c.route.result _
+      run = λ h r. route_done g.N.Cost.Cost.kind (g.N.Network.means c.args.self.now.net) h c.args.self.now r _ c.if-not-usable.ensures.opened (omega arith) c.route.result _
           c.if-not-usable.ensures.opened c.route.ensures.long c.route.ensures.routed;
     }

@@ -8,7 +8,7 @@ returns-then-not-usable g c =
       net = refl;
       past = refl;
       refused = (refl, refl);
-      run = λ h r. settle_closed g.Cost.Cost.kind (g.N.Network.means c.args.self.now.net) h c.args.self.now r _ _ (c.if-not-usable.ensures h r);
+      run = λ h r. settle_closed g.N.Cost.Cost.kind (g.N.Network.means c.args.self.now.net) h c.args.self.now r _ _ (c.if-not-usable.ensures h r);
     }
 
 pub returns-then-budget-eq0 : goal.returns-then-budget-eq0
@@ -17,7 +17,7 @@ returns-then-budget-eq0 g c =
       net = refl;
       past = refl;
       refused = (refl, refl);
-      run = λ h r. settle_bad g.Cost.Cost.kind (g.N.Network.means c.args.self.now.net) h c.args.self.now r _ _ c.if-not-usable.ensures.opened c.then-budget-eq0.either;
+      run = λ h r. settle_bad g.N.Cost.Cost.kind (g.N.Network.means c.args.self.now.net) h c.args.self.now r _ _ c.if-not-usable.ensures.opened c.then-budget-eq0.either;
     }
 
 pub returns-then-work-places : goal.returns-then-work-places
@@ -28,7 +28,7 @@ returns-then-work-places g c =
       net = refl;
       past = refl;
       refused = (refl, refl);
-      run = λ h r. settle_short g.Cost.Cost.kind (g.N.Network.means c.args.self.now.net) h c.args.self.now r _ _ c.if-not-usable.ensures.opened (omega (arith, c.if-budget-eq0.false)) c.if-budget-gt1000000.false (omega (arith, n, l));
+      run = λ h r. settle_short g.N.Cost.Cost.kind (g.N.Network.means c.args.self.now.net) h c.args.self.now r _ _ c.if-not-usable.ensures.opened (omega (arith, c.if-budget-eq0.false)) c.if-budget-gt1000000.false (omega (arith, n, l));
     }
 
 pub returns : goal.returns
@@ -39,6 +39,6 @@ returns g c =
       net = refl;
       past = c.settle.ensures.past;
       refused = tt;
-      run = λ h r. settle_done g.Cost.Cost.kind (g.N.Network.means c.args.self.now.net) h c.args.self.now r _ _ c.if-not-usable.ensures.opened (omega (arith, c.if-budget-eq0.false)) c.if-budget-gt1000000.false (omega (arith, n, l)) c.settle.result _
+      run = λ h r. settle_done g.N.Cost.Cost.kind (g.N.Network.means c.args.self.now.net) h c.args.self.now r _ _ c.if-not-usable.ensures.opened (omega (arith, c.if-budget-eq0.false)) c.if-budget-gt1000000.false (omega (arith, n, l)) c.settle.result _
           c.if-not-usable.ensures.opened c.settle.ensures.long c.settle.ensures.settled;
     }

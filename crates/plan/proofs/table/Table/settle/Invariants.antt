@@ -9,5 +9,5 @@ use Rattle.plan.proofs.table.Table.settle.Given as goal
 abbrev pub invariant-loop-routes : goal.invariant-loop-routes
 invariant-loop-routes g l =
     AsLong l.initial.self l.self × (drop (g.N.Network.means l.net).places l.work ≡ drop (g.N.Network.means l.net).places l.initial.work)
-    × (Standing g.Cost.Cost.kind (g.N.Network.means l.net) (state_of l.initial.self) →
-    Repeats g.Cost.Cost.kind (g.N.Network.means l.net) l.routes (state_of l.initial.self) (state_of l.self))
+    × (Standing g.N.Cost.Cost.kind (g.N.Network.means l.net) (state_of l.initial.self) →
+    Repeats g.N.Cost.Cost.kind (g.N.Network.means l.net) l.routes (state_of l.initial.self) (state_of l.self))
