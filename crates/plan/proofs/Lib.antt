@@ -62,3 +62,4 @@ pub mod EachWay
 pub mod SmallRings
 pub mod WorkedStudy
 pub mod BothWays
+pub mod Doubling

@@ -33,10 +33,10 @@ module _ {C R : Type 0} (K : Kind C R) (net : Net C) (f : List ℕ) where
   summed_all k c l s = sym (unit_of K.group (K.value c)) ∙ ap (λ ws. K.group.plus (K.value c) (costs K ws (drop k f))) (sym (drop_all k net.ways l)) ∙ s.so_far
 
   -- one n-fold sum of a light cost
-  part_light : (n : ℕ) (x part : C) → n ≤ light → K.weighs x ≤ light → K.value part ≡ times K.group n (K.value x) → K.weighs part ≤ 1000000000000
-  part_light n x part few small e =
+  part_light : (n : ℕ) (x part : C) → n ≤ light → K.weighs x ≤ light → K.weighs part ≤ n * K.weighs x → K.weighs part ≤ 1000000000000
+  part_light n x part few small h =
       let p : n * K.weighs x ≤ light * light = mul-le-mul few small in
-      omega (arith, p, K.times-weighs n x part e)
+      omega (arith, p, h)
 
   module _ (k n : ℕ) (x : C) (at : Some x ≡ cost_of (slice_get net.ways k)) where
     costs_at : k < length f → n ≡ get_or f k 0 →
@@ -48,14 +48,14 @@ module _ {C R : Type 0} (K : Kind C R) (net : Net C) (f : List ℕ) where
         ∙ ap₂ (λ m y. K.group.plus (times K.group m (K.value y)) (costs K (drop (k + 1) net.ways) (drop (k + 1) f))) (sym e) w.2
 
     pub summed_more : k < length f → n ≡ get_or f k 0 → (c part d : C) → Summed k c → n ≤ light → K.weighs x ≤ light →
-        K.value part ≡ times K.group n (K.value x) → K.value d ≡ K.group.plus (K.value c) (K.value part) → Summed (k + 1) d
-    summed_more l e c part d s few small made sum = record {
+        K.value part ≡ times K.group n (K.value x) → K.weighs part ≤ n * K.weighs x → K.value d ≡ K.group.plus (K.value c) (K.value part) → Summed (k + 1) d
+    summed_more l e c part d s few small made lighter sum = record {
       so_far = ap (λ z. K.group.plus z (costs K (drop (k + 1) net.ways) (drop (k + 1) f))) sum
           ∙ K.group.assoc _ _ _
           ∙ ap (λ z. K.group.plus (K.value c) (K.group.plus z (costs K (drop (k + 1) net.ways) (drop (k + 1) f)))) made
           ∙ ap (K.group.plus (K.value c)) (sym (costs_at l e))
           ∙ s.so_far;
-      weight = omega (arith, s.weight, part_light n x part few small made, K.sum_weighs c part d sum);
+      weight = omega (arith, s.weight, part_light n x part few small lighter, K.sum_weighs c part d sum);
     }
 
 -- for an open plan each step of the sum is made
@@ -69,9 +69,9 @@ module _ {C R : Type 0} (K : Kind C R) (net : Net C) {s : State} (stands : Stand
       ⊎_elim (λ l. omega (arith, l, e, load_small K net stands k))
       (λ l. omega (arith, l, ap K.weighs w.2, (stands.passed.fair k w.0 w.1).weight)) either
 
-  pub sum_made : (n : ℕ) (x part c : C) → n ≤ light → K.weighs x ≤ light → K.value part ≡ times K.group n (K.value x) → Summed K net s.loads k c →
+  pub sum_made : (n : ℕ) (x part c : C) → n ≤ light → K.weighs x ≤ light → K.weighs part ≤ n * K.weighs x → Summed K net s.loads k c →
       heaviest < K.weighs c + K.weighs part → ⊥
-  sum_made n x part c few small made sum over = omega (arith, over, on, stands.passed.ways, sum.weight, part_light K net s.loads n x part few small made)
+  sum_made n x part c few small lighter sum over = omega (arith, over, on, stands.passed.ways, sum.weight, part_light K net s.loads n x part few small lighter)
 
 -- none is answered, and the plan does not stand
 pub unmade : {C R : Type 0} (K : Kind C R) (net : Net C) (s : State) (r : Option C) → r ≡ None → (Standing K net s → ⊥) →

@@ -13,6 +13,7 @@ mod front;
 mod laws;
 mod leg;
 mod marking;
+mod multiples;
 mod nearest;
 mod opening;
 mod performing;

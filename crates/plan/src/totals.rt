@@ -3,6 +3,7 @@ ghost use Rattle.plan.specs.Loads.{costs};
 ghost use Rattle.plan.specs.Standing.{Standing};
 ghost use Rattle.plan.specs.Tables.{state_of};
 
+use super::multiples::multiple;
 use super::table::Table;
 use costs::Cost;
 use networks::Network;
@@ -38,7 +39,7 @@ impl Table {
         let mut total = N::Cost::zero();
         for k in 0..net.ways() {
             let cost = net.cost(k)?;
-            let part = cost.times(self.load(k)?)?;
+            let part = multiple(cost, self.load(k)?)?;
             total = total.plus(part)?;
         }
         Some(total)

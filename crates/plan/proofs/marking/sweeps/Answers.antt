@@ -9,15 +9,15 @@ loop-i-init g c = spreads_none g.N.Cost.Cost.kind (g.N.Network.means c.args.net.
 
 pub returns-then-not-sweep : goal.returns-then-not-sweep
 returns-then-not-sweep g c =
-    spreads_early g.N.Cost.Cost.kind (g.N.Network.means c.args.net.now) c.args.loads.now c.loop-i.-i c.args.limit
+    spreads_early g.N.Cost.Cost.kind (g.N.Network.means c.args.net.now) c.args.loads.now c.loop-i._i c.args.limit
     c.args.marks.now c.loop-i.marks c.sweep.new.marks c.loop-i.invariant c.if-not-sweep.ensures
 
 pub loop-i-preserved : goal.loop-i-preserved
 loop-i-preserved g c =
-    spreads_more g.N.Cost.Cost.kind (g.N.Network.means c.args.net.now) c.args.loads.now c.loop-i.-i
+    spreads_more g.N.Cost.Cost.kind (g.N.Network.means c.args.net.now) c.args.loads.now c.loop-i._i
     c.args.marks.now c.loop-i.marks c.sweep.new.marks _ c.loop-i.invariant c.if-not-sweep.ensures
 
 pub returns : goal.returns
 returns g c =
-    let all : c.loop-i.-i ≡ c.args.limit = omega (arith, c.loop-i-test.false, c.loop-i.auto.-i-end) in
+    let all : c.loop-i._i ≡ c.args.limit = omega (arith, c.loop-i-test.false, c.loop-i.auto._i-end) in
     subst (λ n. Spreads g.N.Cost.Cost.kind (g.N.Network.means c.args.net.now) c.args.loads.now n c.args.marks.now c.loop-i.marks) all c.loop-i.invariant

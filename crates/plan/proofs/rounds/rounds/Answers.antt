@@ -23,14 +23,14 @@ scan-requires g c =
       fit = subst (λ n. Fits K n ways) (sym kept) c.requires.fit;
       few = c.requires.few;
       room = λ v w e.
-          let few : c.loop-i.-i * (2000000 * length ways) ≤ 1024 * (2000000 * length ways) =
-          mul-le-mul_right {m = c.loop-i.-i} {n = 1024} (2000000 * length ways) (omega (arith, c.loop-i-test.true, c.requires.short)) in
+          let few : c.loop-i._i * (2000000 * length ways) ≤ 1024 * (2000000 * length ways) =
+          mul-le-mul_right {m = c.loop-i._i} {n = 1024} (2000000 * length ways) (omega (arith, c.loop-i-test.true, c.requires.short)) in
           omega (arith, few, c.requires.few, c.loop-i.invariant.weight 3000000000000000000 c.requires.room v w e);
     }
 
 pub returns-then-not-scan : goal.returns-then-not-scan
 returns-then-not-scan g c =
-    rounds_early g.N.Cost.Cost.kind (g.N.Network.means c.args.net.now) c.args.loads.now c.loop-i.-i c.args.limit
+    rounds_early g.N.Cost.Cost.kind (g.N.Network.means c.args.net.now) c.args.loads.now c.loop-i._i c.args.limit
     (record { rows = c.args.rows.now; seen = c.args.seen.now; via = c.args.via.now })
     (record { rows = c.loop-i.rows; seen = c.loop-i.seen; via = c.loop-i.via })
     (record { rows = c.scan.new.rows; seen = c.scan.new.seen; via = c.scan.new.via })
@@ -38,7 +38,7 @@ returns-then-not-scan g c =
 
 pub loop-i-preserved : goal.loop-i-preserved
 loop-i-preserved g c =
-    ran_more g.N.Cost.Cost.kind (g.N.Network.means c.args.net.now) c.args.loads.now c.loop-i.-i
+    ran_more g.N.Cost.Cost.kind (g.N.Network.means c.args.net.now) c.args.loads.now c.loop-i._i
     (record { rows = c.args.rows.now; seen = c.args.seen.now; via = c.args.via.now })
     (record { rows = c.loop-i.rows; seen = c.loop-i.seen; via = c.loop-i.via })
     (record { rows = c.scan.new.rows; seen = c.scan.new.seen; via = c.scan.new.via })
@@ -50,5 +50,5 @@ returns g c =
     let net = g.N.Network.means c.args.net.now in
     let before : Work _ = record { rows = c.args.rows.now; seen = c.args.seen.now; via = c.args.via.now } in
     let after : Work _ = record { rows = c.loop-i.rows; seen = c.loop-i.seen; via = c.loop-i.via } in
-    let all : c.loop-i.-i ≡ c.args.limit = omega (arith, c.loop-i-test.false, c.loop-i.auto.-i-end) in
+    let all : c.loop-i._i ≡ c.args.limit = omega (arith, c.loop-i-test.false, c.loop-i.auto._i-end) in
     rounds_end K net c.args.loads.now c.args.limit before after c.requires.fit (subst (λ n. Ran K net c.args.loads.now n before after) all c.loop-i.invariant)

@@ -23,7 +23,7 @@ loop-i-preserved g c =
     let in-range = c.loop-i-test.true in
     let long = inv.1 in
     let before = events (length c.args.work.now) c.args.calls.now (vec_items c.loop-i.answers) c.loop-i.i in
-    let run = (c.perform.ensures.run before (subst (λ n. Runs kind (g.N.Network.means n) before c.loop-i.plan) (sym inv.0) inv.3)).runs in (
+    let run = (c.perform.ensures.law before (subst (λ n. Runs kind (g.N.Network.means n) before c.loop-i.plan) (sym inv.0) inv.3)).runs in (
       c.perform.ensures.net ∙ inv.0,
       length-set _ _ _ ∙ inv.1,
       subst (λ n. drop (g.N.Network.means n).places c.perform.new.work ≡ drop (g.N.Network.means n).places c.loop-i.work) inv.0 c.perform.ensures.past ∙ inv.2,

@@ -14,7 +14,7 @@ loop-i-init c = (
 pub loop-i-preserved : goal.loop-i-preserved
 loop-i-preserved c = (
   omega (arith, c.loop-i.invariant.0),
-  λ within bears. go_step (c.loop-i.invariant.1 within bears) c.loop-i-test.true c.send_step_lem.new.loads c.send_step_lem.ensures.sent,
+  λ within bears. go_step (c.loop-i.invariant.1 within bears) c.loop-i-test.true c.send_step.new.loads c.send_step.ensures.sent,
 )
 
 pub returns : goal.returns

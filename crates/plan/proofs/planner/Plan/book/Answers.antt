@@ -2,15 +2,20 @@ use Rattle.std.proofs.Common.{refl}
 use Rattle.plan.proofs.Booked.{book_closed, book_done, book_unaltered}
 use Rattle.plan.proofs.planner.Plan.book.Goals as goal
 
-pub returns-then-not-self : goal.returns-then-not-self
-returns-then-not-self g c =
-    record { net = refl; refused = refl; run = λ work h r. book_closed g.N.Cost.Cost.kind (g.N.Network.means c.args.self.now.net) work c.args.from c.args.to c.args.amount h c.args.self.now r c.if-not-self.true }
+pub returns-then-not-self-clause-law : goal.returns-then-not-self-clause-law
+returns-then-not-self-clause-law g c work h r =
+    book_closed g.N.Cost.Cost.kind (g.N.Network.means c.args.self.now.net) work c.args.from c.args.to c.args.amount h c.args.self.now r c.if-not-self.true
 
-pub returns : goal.returns
-returns g c =
-    record {
-      net = refl;
-      refused = book_unaltered c.args.from c.args.to c.args.amount c.args.self.now c.book.result _ c.book.ensures;
-      run = λ work h r. book_done g.N.Cost.Cost.kind (g.N.Network.means c.args.self.now.net) work c.args.from c.args.to c.args.amount h c.args.self.now r c.if-not-self.false
-          c.book.result _ c.if-not-self.false c.book.ensures;
-    }
+pub returns-then-not-self-clause-run : goal.returns-then-not-self-clause-run
+returns-then-not-self-clause-run g c work h r = (returns-then-not-self-clause-law g c work h r).runs
+
+pub returns-clause-refused : goal.returns-clause-refused
+returns-clause-refused g c = book_unaltered c.args.from c.args.to c.args.amount c.args.self.now c.book.result _ c.book.ensures
+
+pub returns-clause-law : goal.returns-clause-law
+returns-clause-law g c work h r =
+    book_done g.N.Cost.Cost.kind (g.N.Network.means c.args.self.now.net) work c.args.from c.args.to c.args.amount h c.args.self.now r c.if-not-self.false
+    c.book.result _ c.if-not-self.false c.book.ensures
+
+pub returns-clause-run : goal.returns-clause-run
+returns-clause-run g c work h r = (returns-clause-law g c work h r).runs

@@ -3,58 +3,80 @@ use Rattle.networks.specs.declared.refusal.Refusal.TheVariants.{LosingRing}
 use Rattle.plan.proofs.Opened.{none_early, both_closed, open_already, open_faulty, open_short, open_loses, open_done}
 use Rattle.plan.proofs.planner.Plan.open.Goals as goal
 
-pub returns-then-self : goal.returns-then-self
-returns-then-self g c =
-    record { net = refl; past = refl; refused = refl; untouched = λ e i n. (refl, refl); run = λ h r. open_already g.N.Cost.Cost.kind (g.N.Network.means c.args.self.now.net) (length c.args.work.now) h c.args.self.now r c.if-self.true }
+pub returns-then-self-clause-untouched : goal.returns-then-self-clause-untouched
+returns-then-self-clause-untouched g c = λ e i n. (refl, refl)
 
-pub returns-in-Some : goal.returns-in-Some
-returns-in-Some g c =
-    record {
-      net = refl;
-      past = refl;
-      refused = refl;
-      untouched = λ e i n. (refl, refl);
-      run = λ h r. open_faulty g.N.Cost.Cost.kind (g.N.Network.means c.args.self.now.net) (length c.args.work.now) h c.args.self.now r c.if-self.false c.in-Some.refusal c.in-Some.ensures;
-    }
+pub returns-then-self-clause-law : goal.returns-then-self-clause-law
+returns-then-self-clause-law g c h r =
+    open_already g.N.Cost.Cost.kind (g.N.Network.means c.args.self.now.net) (length c.args.work.now) h c.args.self.now r c.if-self.true
 
-pub returns-then-work-places : goal.returns-then-work-places
-returns-then-work-places g c =
+pub returns-then-self-clause-run : goal.returns-then-self-clause-run
+returns-then-self-clause-run g c h r = (returns-then-self-clause-law g c h r).runs
+
+pub returns-in-Some-clause-untouched : goal.returns-in-Some-clause-untouched
+returns-in-Some-clause-untouched g c = λ e i n. (refl, refl)
+
+pub returns-in-Some-clause-law : goal.returns-in-Some-clause-law
+returns-in-Some-clause-law g c h r =
+    open_faulty g.N.Cost.Cost.kind (g.N.Network.means c.args.self.now.net) (length c.args.work.now) h c.args.self.now r c.if-self.false c.in-Some.refusal c.in-Some.ensures
+
+pub returns-in-Some-clause-run : goal.returns-in-Some-clause-run
+returns-in-Some-clause-run g c h r = (returns-in-Some-clause-law g c h r).runs
+
+pub returns-then-work-places-clause-untouched : goal.returns-then-work-places-clause-untouched
+returns-then-work-places-clause-untouched g c =
     let n = c.places-places.ensures in
     let l = c.if-work-places.true in
-    record {
-      net = refl;
-      past = refl;
-      refused = refl;
-      untouched = λ e i n. (refl, refl);
-      run = λ h r. open_short g.N.Cost.Cost.kind (g.N.Network.means c.args.self.now.net) (length c.args.work.now) h c.args.self.now r c.if-self.false c.in_default.ensures (omega arith);
-    }
+    λ e i n. (refl, refl)
 
-pub returns-then-not-price-all : goal.returns-then-not-price-all
-returns-then-not-price-all g c =
+pub returns-then-work-places-clause-law : goal.returns-then-work-places-clause-law
+returns-then-work-places-clause-law g c h r =
+    let n = c.places-places.ensures in
+    let l = c.if-work-places.true in
+    open_short g.N.Cost.Cost.kind (g.N.Network.means c.args.self.now.net) (length c.args.work.now) h c.args.self.now r c.if-self.false c.in_default.ensures (omega arith)
+
+pub returns-then-work-places-clause-run : goal.returns-then-work-places-clause-run
+returns-then-work-places-clause-run g c h r = (returns-then-work-places-clause-law g c h r).runs
+
+pub returns-then-has_losing_ring-clause-past : goal.returns-then-has_losing_ring-clause-past
+returns-then-has_losing_ring-clause-past g c = c.has_losing_ring.ensures.past
+
+pub returns-then-has_losing_ring-clause-refused : goal.returns-then-has_losing_ring-clause-refused
+returns-then-has_losing_ring-clause-refused g c =
+    both_closed c.args.self.now (record { net = c.args.self.now.net; table = c.has_losing_ring.new.self; opened = c.args.self.now.opened }) c.if-self.false c.if-self.false
+
+pub returns-then-has_losing_ring-clause-untouched : goal.returns-then-has_losing_ring-clause-untouched
+returns-then-has_losing_ring-clause-untouched g c = none_early (Err LosingRing) refl
+
+pub returns-then-has_losing_ring-clause-law : goal.returns-then-has_losing_ring-clause-law
+returns-then-has_losing_ring-clause-law g c h r =
     let n = c.places-places.ensures in
     let l = c.if-work-places.false in
     let f = c.is_for.ensures.0 c.if-not-is_for.false in
-    record {
-      net = refl;
-      past = c.price-all.ensures.past;
-      refused = both_closed c.args.self.now (record { net = c.args.self.now.net; table = c.price-all.new.self; opened = c.args.self.now.opened }) c.if-self.false c.if-self.false;
-      untouched = none_early (Err LosingRing) refl;
-      run = λ h r. open_loses g.N.Cost.Cost.kind (g.N.Network.means c.args.self.now.net) (length c.args.work.now) h c.args.self.now r c.if-self.false c.in_default.ensures (omega arith)
-          c.clear.new.self c.price-all.new.self c.clear.ensures c.price-all.ensures.same (f.0 ∙ n) (f.1 ∙ c.ways.ensures)
-          _ c.if-self.false refl c.if-not-price-all.ensures.priced;
-    }
+    open_loses g.N.Cost.Cost.kind (g.N.Network.means c.args.self.now.net) (length c.args.work.now) h c.args.self.now r c.if-self.false c.in_default.ensures (omega arith)
+    c.clear.new.self c.has_losing_ring.new.self c.clear.ensures c.has_losing_ring.ensures.same (f.0 ∙ n) (f.1 ∙ c.ways.ensures)
+    _ c.if-self.false refl c.if-has_losing_ring.ensures.decides
 
-pub returns : goal.returns
-returns g c =
+pub returns-then-has_losing_ring-clause-run : goal.returns-then-has_losing_ring-clause-run
+returns-then-has_losing_ring-clause-run g c h r = (returns-then-has_losing_ring-clause-law g c h r).runs
+
+pub returns-clause-past : goal.returns-clause-past
+returns-clause-past g c = c.has_losing_ring.ensures.past
+
+pub returns-clause-refused : goal.returns-clause-refused
+returns-clause-refused g c = tt
+
+pub returns-clause-untouched : goal.returns-clause-untouched
+returns-clause-untouched g c = none_early (Ok tt) refl
+
+pub returns-clause-law : goal.returns-clause-law
+returns-clause-law g c h r =
     let n = c.places-places.ensures in
     let l = c.if-work-places.false in
     let f = c.is_for.ensures.0 c.if-not-is_for.false in
-    record {
-      net = refl;
-      past = c.price-all.ensures.past;
-      refused = tt;
-      untouched = none_early (Ok tt) refl;
-      run = λ h r. open_done g.N.Cost.Cost.kind (g.N.Network.means c.args.self.now.net) (length c.args.work.now) h c.args.self.now r c.if-self.false c.in_default.ensures (omega arith)
-          c.clear.new.self c.price-all.new.self c.clear.ensures c.price-all.ensures.same (f.0 ∙ n) (f.1 ∙ c.ways.ensures)
-          _ refl refl c.if-not-price-all.ensures.priced.0;
-    }
+    open_done g.N.Cost.Cost.kind (g.N.Network.means c.args.self.now.net) (length c.args.work.now) h c.args.self.now r c.if-self.false c.in_default.ensures (omega arith)
+    c.clear.new.self c.has_losing_ring.new.self c.clear.ensures c.has_losing_ring.ensures.same (f.0 ∙ n) (f.1 ∙ c.ways.ensures)
+    _ refl refl c.if-has_losing_ring.ensures.decides
+
+pub returns-clause-run : goal.returns-clause-run
+returns-clause-run g c h r = (returns-clause-law g c h r).runs

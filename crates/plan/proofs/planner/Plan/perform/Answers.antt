@@ -8,6 +8,6 @@ returns-in-Book g c =
     record {
       net = c.book.ensures.net;
       past = refl;
-      run = λ h r. subst₂ (λ k a. Stepped g.N.Cost.Cost.kind (g.N.Network.means c.args.self.now.net) h c.args.self.now (record { call = k; work = work; answer = a }) c.book.new.self)
-          (sym c.in-Book.is) (sym c.booked.ensures) (c.book.ensures.run work h r);
+      law = λ h r. subst₂ (λ k a. Stepped g.N.Cost.Cost.kind (g.N.Network.means c.args.self.now.net) h c.args.self.now (record { call = k; work = work; answer = a }) c.book.new.self)
+          (sym c.in-Book.is) (sym c.booked.ensures) (c.book.ensures.law work h r);
     }

@@ -23,25 +23,25 @@ returns-in_err-part g c =
     let on : c.loop-k.k < length net.ways = omega (arith, c.loop-k-test.true, c.ways-k-end.ensures) in
     unmade g.N.Cost.Cost.kind net (state_of c.args.self.now) _ c.from_residual-in_err-part.ensures
     (λ stands. part_made g.N.Cost.Cost.kind net stands c.loop-k.k on c.in_ok-load.field-0 c.in_ok-cost.cost c.in_ok-cost.ensures
-    c.in_ok-load.ensures.1 c.in_err-part.ensures)
+    c.in_ok-load.ensures.1 c.in_err-part.ensures.made)
 
 pub returns-in_err-total : goal.returns-in_err-total
 returns-in_err-total g c =
     let net = g.N.Network.means c.args.net.now in
     let on : c.loop-k.k < length net.ways = omega (arith, c.loop-k-test.true, c.ways-k-end.ensures) in
-    let part = c.in_ok-part.ensures in
+    let part = c.in_ok-part.ensures.made in
     unmade g.N.Cost.Cost.kind net (state_of c.args.self.now) _ c.from_residual-in_err-total.ensures
     (λ stands. sum_made g.N.Cost.Cost.kind net stands c.loop-k.k on c.in_ok-load.field-0 c.in_ok-cost.cost c.in_ok-part.part c.loop-k.total
-    part.0 part.1 part.2 c.loop-k.invariant c.in_err-total.ensures)
+    part.0 part.1 c.in_ok-part.ensures.light c.loop-k.invariant c.in_err-total.ensures)
 
 pub loop-k-preserved : goal.loop-k-preserved
 loop-k-preserved g c =
     let loads = vec_items c.args.self.now.loads in
     let load = c.in_ok-load.ensures in
-    let part = c.in_ok-part.ensures in
+    let part = c.in_ok-part.ensures.made in
     let there : c.loop-k.k < length loads = omega (arith, load.0, c.args.self.now.loads.ok.0) in
     summed_more g.N.Cost.Cost.kind (g.N.Network.means c.args.net.now) loads c.loop-k.k c.in_ok-load.field-0 c.in_ok-cost.cost c.in_ok-cost.ensures
-    there load.1 c.loop-k.total c.in_ok-part.part c.in_ok-total.total c.loop-k.invariant part.0 part.1 part.2 c.in_ok-total.ensures.1
+    there load.1 c.loop-k.total c.in_ok-part.part c.in_ok-total.total c.loop-k.invariant part.0 part.1 part.2 c.in_ok-part.ensures.light c.in_ok-total.ensures.1
 
 pub returns : goal.returns
 returns g c =
