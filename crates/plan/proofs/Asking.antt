@@ -1,5 +1,5 @@
 -- What a question leaves of a plan, and what the prices say.
-use Rattle.std.proofs.Common.{◌≡◌, ℕ, ◌<◌, ◌≤◌, Bool, true, false, cond, List, length, Ok, Err, vec_items, vec_len, MatchBool, sym, refl, ap, ◌∙◌, subst, arith, le-ltb, lt-ltb}
+use Rattle.std.proofs.Common.{◌≡◌, ◌<◌, ◌≤◌, Bool, true, false, cond, List, length, Ok, Err, vec_items, vec_len, MatchBool, sym, refl, ap, ◌∙◌, subst, le-ltb, lt-ltb}
 use Rattle.costs.specs.Kind.{Kind}
 use Rattle.networks.specs.Net.{Net}
 use Rattle.networks.specs.declared.refusal.Refusal.TheVariants.{NotOpen, ShortTable}
@@ -7,9 +7,9 @@ use Rattle.plan.specs.declared.planner.Plan.{Plan}
 use Rattle.plan.specs.declared.table.Table.{Table}
 use Rattle.plan.specs.Checks.{when}
 use Rattle.plan.specs.Law.{Trace}
-use Rattle.plan.specs.Plans.{plan_state, Sized, Runs}
+use Rattle.plan.specs.Plans.{plan_state, Runs}
 use Rattle.plan.specs.Questions.{Priced, Prices, prices_fault}
-use Rattle.plan.specs.State.{State, closed, Event}
+use Rattle.plan.specs.State.{closed, Event}
 use Rattle.plan.specs.Steps.{Losing}
 use Rattle.plan.specs.Tables.{state_of, Same}
 use Rattle.plan.proofs.RouteEnds.{is_open, open_stands}

@@ -1,5 +1,5 @@
 -- What a booking does to the run of a plan.
-use Rattle.std.proofs.Common.{◌≡◌, ℕ, Bool, true, false, cond, ◌||◌, eqb, ltb, List, ◌∷◌, length, ℤ, pos, ◌+ℤ◌, ◌-ℤ◌, Some, None, Ok, Err, vec_items, vec_len, Option, Result, sym, refl, ap, ◌∙◌, subst}
+use Rattle.std.proofs.Common.{◌≡◌, ℕ, true, false, cond, ◌||◌, eqb, ltb, List, length, pos, ◌+ℤ◌, ◌-ℤ◌, Ok, Err, vec_items, Result, sym, refl, ap, ◌∙◌, subst}
 use Rattle.costs.specs.Kind.{Kind}
 use Rattle.networks.specs.Net.{Net}
 use Rattle.networks.specs.declared.refusal.Refusal.{Refusal}
@@ -12,10 +12,9 @@ use Rattle.plan.specs.Checks.{or_else, when, outside, beyond, book_fault}
 use Rattle.plan.specs.Law.{Trace}
 use Rattle.plan.specs.Plans.{IfRefused, plan_state, Sized, Runs, booking, Stepped}
 use Rattle.plan.specs.Rules.{Rule, move, book_refused, book_accepted}
-use Rattle.plan.specs.State.{State, closed, rest, Event}
+use Rattle.plan.specs.State.{closed, rest, Event}
 use Rattle.plan.specs.Tables.{state_of, booking_fault, Books}
 use Rattle.plan.proofs.Moves.{move_long}
-use Rattle.plan.proofs.Standing.{Good}
 use Rattle.plan.proofs.Stands.{is_good}
 use Rattle.plan.proofs.Lawful.{stepped}
 

@@ -1,5 +1,5 @@
 -- Where no ring costs less than zero, there are cheapest routes and a potential.
-use Rattle.std.proofs.Common.{◌≡◌, ℕ, zero, ◌<◌, ◌⊎◌, List, [], ◌∷◌, ◌++◌, refl, ap, ◌∙◌, subst, inl, inr, ⊎_elim, arith}
+use Rattle.std.proofs.Common.{◌≡◌, ℕ, ◌<◌, ◌⊎◌, List, [], ◌∷◌, ◌++◌, refl, ap, ◌∙◌, subst, inl, inr, ⊎_elim, arith}
 use Rattle.std.proofs.ByRecursion.{All-append}
 use Rattle.costs.specs.Group.{Group}
 use Rattle.plan.proofs.Flow.{unit_of, Net, Joined, Carries, Potential, Step, from, to, price, price_of, Row, Route, NoCheap}

@@ -1,5 +1,5 @@
 -- A search from everywhere decides whether some ring costs less than zero.
-use Rattle.std.proofs.Common.{◌≡◌, ℕ, suc, ◌<◌, ◌≤◌, Bool, true, false, not, ◌||◌, eqb, ltb, List, [], ◌∷◌, length, Some, None, MatchBool, Option, sym, refl, ap, ◌∙◌, subst, arith, le-ltb, lt-ltb}
+use Rattle.std.proofs.Common.{◌≡◌, ℕ, suc, ◌<◌, Bool, true, false, ◌||◌, eqb, ltb, List, [], ◌∷◌, length, Some, None, MatchBool, Option, refl, ap, ◌∙◌, arith, le-ltb, lt-ltb}
 use Rattle.std.proofs.lemmas.Bool.{ne_eqb}
 use Rattle.std.specs.List.{slice_get}
 use Rattle.costs.specs.Kind.{Kind}
@@ -9,8 +9,8 @@ use Rattle.networks.specs.declared.refusal.Refusal.TheVariants.{BadPlaces, ManyW
 use Rattle.plan.specs.Checks.{or_else, when, fault_of_way, fault_of_ways, net_fault, open_fault}
 use Rattle.plan.specs.Entries.{Work, Fits, entry}
 use Rattle.plan.specs.Searches.{Searched}
-use Rattle.plan.specs.Standing.{Fair, Passed, Inside}
-use Rattle.plan.specs.State.{State, closed}
+use Rattle.plan.specs.Standing.{Fair, Passed}
+use Rattle.plan.specs.State.{closed}
 use Rattle.plan.specs.Steps.{Losing}
 use Rattle.plan.proofs.Faults.{open_passed}
 use Rattle.plan.proofs.Found.{Prices, prices_sound}

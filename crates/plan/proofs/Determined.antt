@@ -7,7 +7,7 @@ use Rattle.networks.specs.Net.{Net}
 use Rattle.plan.specs.Steps.{Leads, Reach, Least, Price}
 use Rattle.networks.specs.declared.refusal.Refusal.{Refusal}
 use Rattle.plan.specs.declared.calls.Answer.{Answer}
-use Rattle.plan.specs.declared.calls.Answer.TheVariants.{Settled, Blocked, Sent, Ran, Refused}
+use Rattle.plan.specs.declared.calls.Answer.TheVariants.{Blocked, Sent, Ran, Refused}
 use Rattle.plan.specs.declared.calls.Call.{Call}
 use Rattle.plan.specs.declared.calls.Call.TheVariants.{Route as Route-call, Settle}
 use Rattle.plan.specs.declared.calls.Ending.{Ending}

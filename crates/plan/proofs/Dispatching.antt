@@ -1,5 +1,5 @@
 -- Tracing back, sending, moving the rests and counting make one route of the rules.
-use Rattle.std.proofs.Common.{◌≡◌, ℕ, ◌+◌, ◌<◌, ◌≤◌, min, Bool, true, List, length, get_or, ℤ, pos, ◌-ℤ◌, neg_ℤ, ◌≤ℤ◌, ◌<ℤ◌, vec_items, sym, refl, ap, ◌∙◌, subst, ap₂, arith}
+use Rattle.std.proofs.Common.{◌≡◌, ℕ, ◌+◌, ◌≤◌, min, Bool, true, List, length, ℤ, vec_items, sym, subst, ap₂, arith}
 use Rattle.std.proofs.lemmas.Int.{ints}
 use Rattle.costs.specs.Kind.{Kind}
 use Rattle.networks.specs.Net.{Net}
@@ -7,7 +7,7 @@ use Rattle.plan.specs.declared.back.Trail.{Trail}
 use Rattle.plan.specs.declared.step.Step.{Step}
 use Rattle.plan.specs.declared.table.Table.{Table}
 use Rattle.plan.specs.Entries.{tables}
-use Rattle.plan.specs.Rules.{Source, Target, Sends, along, move, most_counted}
+use Rattle.plan.specs.Rules.{Source, Target, Sends, along, most_counted}
 use Rattle.plan.specs.Sendings.{Asked, Moved, Dispatched}
 use Rattle.plan.specs.Standing.{Standing}
 use Rattle.plan.specs.State.{State}

@@ -5,7 +5,7 @@ use Rattle.std.proofs.lemmas.Int.{ints}
 use Rattle.std.proofs.lemmas.Bool.{both_ways, cases_eq}
 use Rattle.costs.specs.Kind.{Kind}
 use Rattle.networks.specs.Net.{Net}
-use Rattle.plan.specs.Loads.{leaving, Keeps}
+use Rattle.plan.specs.Loads.{leaving}
 use Rattle.plan.specs.Steps.{Losing}
 use Rattle.plan.specs.declared.calls.Answer.{Answer}
 use Rattle.plan.specs.declared.calls.Call.{Call}
@@ -21,7 +21,7 @@ use Rattle.plan.proofs.Cheapest.{has_potential}
 use Rattle.plan.proofs.Moves.{here, away, move_at, move_long, move_all, rests_is}
 use Rattle.plan.proofs.Send.{spot}
 use Rattle.plan.proofs.Faults.{open_shut, Bookable, bookable}
-use Rattle.plan.proofs.Standing.{inside, keeps, level, sends_stands, repeats_stands}
+use Rattle.plan.proofs.Standing.{inside, level, sends_stands, repeats_stands}
 
 cond_same : (b : Bool) (n : ℕ) → n ≡ 0 → cond b n 0 ≡ 0
 cond_same true n e = e

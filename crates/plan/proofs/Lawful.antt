@@ -1,11 +1,10 @@
 -- Every run keeps the law at each of its calls.
-use Rattle.std.proofs.Common.{◌≡◌, ℕ, List, sym, subst, subst₂}
+use Rattle.std.proofs.Common.{ℕ, List, subst, subst₂}
 use Rattle.costs.specs.Kind.{Kind}
 use Rattle.networks.specs.Net.{Net}
 use Rattle.plan.specs.declared.calls.Answer.TheVariants.{Ran}
 use Rattle.plan.specs.declared.calls.Call.TheVariants.{Settle}
 use Rattle.plan.specs.declared.calls.Ending.{Ending}
-use Rattle.plan.specs.declared.calls.Ending.TheVariants as ending
 use Rattle.plan.specs.Histories.{SettledFairly, Kept, Lawful, start, then}
 use Rattle.plan.specs.Law as law
 use Rattle.plan.specs.Law.{Trace}

@@ -1,12 +1,11 @@
 -- The events of a list of calls, as one answer after the other is written.
-use Rattle.std.proofs.Common.{◌≡◌, ℕ, zero, suc, ◌+◌, ◌<◌, ◌≤◌, List, ◌∷◌, length, get_or, set, sym, refl, ap, ◌∙◌, subst, ap₂, arith}
+use Rattle.std.proofs.Common.{◌≡◌, ℕ, zero, suc, ◌+◌, ◌<◌, ◌≤◌, List, ◌∷◌, length, get_or, set, sym, refl, ap, ◌∙◌, ap₂, arith}
 use Rattle.std.proofs.lemmas.List.{get_or-set_same, get_or-set_other}
 use Rattle.plan.specs.declared.calls.Answer.{Answer}
 use Rattle.plan.specs.declared.calls.Answer.TheVariants.{Opened}
 use Rattle.plan.specs.declared.calls.Call.{Call}
 use Rattle.plan.specs.declared.calls.Call.TheVariants.{Open}
 use Rattle.plan.specs.Histories.{events}
-use Rattle.plan.specs.State.{Event}
 
 module _ (work : ℕ) (calls : List Call) (answers : List Answer) (i : ℕ) (a : Answer) where
   -- an answer more alters none of the earlier events

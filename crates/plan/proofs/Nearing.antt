@@ -1,5 +1,5 @@
 -- A search from the source of an open plan ends, and shows the next target.
-use Rattle.std.proofs.Common.{◌≡◌, ℕ, zero, suc, ◌<◌, ◌≤◌, Bool, true, false, cond, List, [], ◌∷◌, length, take, ℤ, IfSome, Some, None, Option, sym, refl, ap, ◌∙◌, subst, ap₂, arith, get_or-take}
+use Rattle.std.proofs.Common.{◌≡◌, ℕ, zero, suc, ◌<◌, Bool, true, false, cond, List, [], ◌∷◌, length, take, ℤ, IfSome, Some, None, Option, sym, refl, ap, ◌∙◌, subst, ap₂, arith, get_or-take}
 use Rattle.std.specs.List.{slice_get}
 use Rattle.std.specs.Option.{option_map}
 use Rattle.costs.specs.Kind.{Kind, values}

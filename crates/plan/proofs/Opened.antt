@@ -1,5 +1,5 @@
 -- What each way out of an opening does to the run of a plan.
-use Rattle.std.proofs.Common.{◌≡◌, ℕ, ◌<◌, ◌≤◌, min, Bool, true, false, cond, ltb, List, [], ◌∷◌, length, replicate, pos, Some, None, Ok, Err, vec_items, vec_len, Option, Result, sym, refl, ap, ◌∙◌, subst, arith, le-ltb, lt-ltb}
+use Rattle.std.proofs.Common.{◌≡◌, ℕ, ◌<◌, ◌≤◌, true, false, cond, ltb, List, length, replicate, pos, Some, None, Ok, Err, vec_items, vec_len, Result, sym, ap, ◌∙◌, subst, le-ltb, lt-ltb}
 use Rattle.costs.specs.Kind.{Kind}
 use Rattle.networks.specs.Net.{Net}
 use Rattle.networks.specs.declared.refusal.Refusal.{Refusal}
@@ -9,10 +9,9 @@ use Rattle.plan.specs.declared.calls.Call.TheVariants.{Open}
 use Rattle.plan.specs.declared.planner.Plan.{Plan}
 use Rattle.plan.specs.declared.table.Table.{Table}
 use Rattle.plan.specs.Checks.{or_else, when, net_fault, open_fault}
-use Rattle.plan.specs.Law.{Trace}
 use Rattle.plan.specs.Plans.{plan_state, Sized, Runs, Stepped, IfRefusedEarly}
 use Rattle.plan.specs.Rules.{Rule, open_refused, open_losing, open_accepted}
-use Rattle.plan.specs.State.{State, closed, Event}
+use Rattle.plan.specs.State.{closed, Event}
 use Rattle.plan.specs.Steps.{Losing}
 use Rattle.plan.specs.Tables.{state_of, Cleared, Same}
 use Rattle.plan.proofs.Deciding.{open_is}

@@ -1,5 +1,5 @@
 -- One place more changes the pick if it wants something and is cheaper.
-use Rattle.std.proofs.Common.{◌≡◌, ℕ, zero, suc, ◌+◌, ◌<◌, ◌≤◌, Bool, true, false, cond, ◌⊎◌, List, [], ◌∷◌, length, get_or, ℤ, pos, ◌≤ℤ◌, ◌<ℤ◌, Some, None, Option, Ordering, sym, refl, ap, ◌∙◌, subst, inl, inr, ⊎_elim, arith}
+use Rattle.std.proofs.Common.{◌≡◌, ℕ, zero, suc, ◌+◌, ◌<◌, Bool, true, false, cond, ◌⊎◌, List, [], ◌∷◌, length, get_or, ℤ, pos, ◌≤ℤ◌, ◌<ℤ◌, Some, None, Option, Ordering, sym, refl, ap, ◌∙◌, subst, inl, inr, ⊎_elim, arith}
 use Rattle.std.specs.List.{slice_get}
 use Rattle.std.specs.Option.{option_map}
 use Rattle.std.proofs.lemmas.Bool.{cases_lt}
@@ -8,7 +8,7 @@ use Rattle.std.proofs.lemmas.Int.{ints}
 use Rattle.costs.specs.Group.{Below}
 use Rattle.costs.specs.Kind.{Kind, values, Compares}
 use Rattle.plan.specs.declared.step.Step.{Step}
-use Rattle.plan.specs.Entries.{Work, tables, entry}
+use Rattle.plan.specs.Entries.{Work, tables}
 use Rattle.plan.specs.Picks.{Wants, NoneWants, Cheapest, Picked}
 
 -- a number below n + 1 is below n, or n

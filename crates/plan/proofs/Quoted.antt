@@ -1,17 +1,15 @@
 -- A search from everywhere leaves the prices, unless some ring costs less than zero.
-use Rattle.std.proofs.Common.{◌≡◌, ℕ, ◌<◌, Bool, true, false, cond, List, length, drop, Some, None, MatchBool, Option, sym, refl, ap, ◌∙◌, subst, arith}
+use Rattle.std.proofs.Common.{◌≡◌, ℕ, ◌<◌, Bool, true, false, cond, List, drop, Some, None, MatchBool, Option, sym, refl, ◌∙◌, subst, arith}
 use Rattle.std.specs.List.{slice_get}
 use Rattle.std.specs.Option.{option_map}
 use Rattle.costs.specs.Kind.{Kind, values}
 use Rattle.networks.specs.Net.{Net}
 use Rattle.plan.specs.Checks.{net_fault}
-use Rattle.plan.specs.Entries.{Work, entry, front}
+use Rattle.plan.specs.Entries.{Work, front}
 use Rattle.plan.specs.Questions.{Priced}
 use Rattle.plan.specs.Searches.{Searched}
-use Rattle.plan.specs.Standing.{Passed}
 use Rattle.plan.specs.Steps.{Losing, Price}
 use Rattle.plan.proofs.Deciding.{passed, prices_of, decided}
-use Rattle.plan.proofs.Faults.{some_none}
 use Rattle.plan.proofs.Found.{price_by}
 use Rattle.plan.proofs.Nearing.{nth_front}
 

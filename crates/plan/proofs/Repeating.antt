@@ -1,5 +1,5 @@
 -- Route after route: one more may be put last, and what is left tells how a settle ends.
-use Rattle.std.proofs.Common.{◌≡◌, ℕ, suc, ◌+◌, ◌<◌, ◌≤◌, pos, sym, ap, ◌∙◌, subst, arith}
+use Rattle.std.proofs.Common.{◌≡◌, ℕ, suc, ◌+◌, ◌<◌, ◌≤◌, sym, ◌∙◌, subst, arith}
 use Rattle.std.proofs.lemmas.Int.{ints}
 use Rattle.costs.specs.Kind.{Kind}
 use Rattle.networks.specs.Net.{Net}
@@ -7,7 +7,7 @@ use Rattle.plan.specs.declared.calls.Ending.TheVariants as ending
 use Rattle.plan.specs.declared.calls.Routed.TheVariants.{Settled, Blocked, Sent}
 use Rattle.plan.specs.declared.table.Table.{Table}
 use Rattle.plan.specs.Routings.{Routes, Settles}
-use Rattle.plan.specs.Rules.{AtRest, Source, Sends, Repeats, none, more}
+use Rattle.plan.specs.Rules.{Source, Sends, Repeats, none, more}
 use Rattle.plan.specs.Sendings.{AsLong}
 use Rattle.plan.specs.State.{State}
 

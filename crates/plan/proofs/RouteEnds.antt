@@ -1,5 +1,5 @@
 -- What each way out of a route does to the run of a plan.
-use Rattle.std.proofs.Common.{◌≡◌, ℕ, ◌<◌, ◌≤◌, min, Bool, true, false, cond, ltb, List, ◌∷◌, length, Some, None, Ok, vec_len, MatchBool, sym, refl, ap, ◌∙◌, subst, arith, le-ltb, lt-ltb}
+use Rattle.std.proofs.Common.{◌≡◌, ℕ, ◌<◌, ◌≤◌, Bool, true, false, cond, List, length, Some, None, Ok, vec_len, MatchBool, sym, refl, ap, ◌∙◌, subst, arith, le-ltb, lt-ltb}
 use Rattle.costs.specs.Kind.{Kind}
 use Rattle.networks.specs.Net.{Net}
 use Rattle.networks.specs.declared.refusal.Refusal.{Refusal}
@@ -9,13 +9,12 @@ use Rattle.plan.specs.declared.calls.Call.TheVariants.{Route}
 use Rattle.plan.specs.declared.calls.Routed.{Routed}
 use Rattle.plan.specs.declared.calls.Routed.TheVariants.{Settled, Blocked, Sent}
 use Rattle.plan.specs.declared.planner.Plan.{Plan}
-use Rattle.plan.specs.declared.table.Table.{Table}
 use Rattle.plan.specs.Checks.{when, net_fault, route_fault}
 use Rattle.plan.specs.Plans.{plan_state, Runs, Usable, NeverOpened, routing, Stepped}
 use Rattle.plan.specs.Routings.{Routes}
 use Rattle.plan.specs.Rules.{Rule, route_refused, route_settled, route_blocked, route_sent}
 use Rattle.plan.specs.Sendings.{AsLong}
-use Rattle.plan.specs.Standing.{Standing, Passed}
+use Rattle.plan.specs.Standing.{Standing}
 use Rattle.plan.specs.State.{State, closed, Event}
 use Rattle.plan.specs.Tables.{state_of}
 use Rattle.plan.proofs.Deciding.{passed_none}

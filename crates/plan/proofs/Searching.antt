@@ -1,5 +1,5 @@
 -- Rounds of scans that begin at zeros give the least costs of walks from there.
-use Rattle.std.proofs.Common.{◌≡◌, ℕ, ◌+◌, ◌*◌, ◌<◌, Bool, List, length, Some, sym, refl, ap, ◌∙◌, subst, inl, inr, ⊎_elim, arith}
+use Rattle.std.proofs.Common.{◌≡◌, ℕ, ◌<◌, Bool, List, length, Some, sym, ap, ◌∙◌, subst, inl, inr, ⊎_elim, arith}
 use Rattle.std.specs.List.{AllByRecursion as All}
 use Rattle.costs.specs.Group.{Group}
 use Rattle.costs.specs.Kind.{Kind}
@@ -7,7 +7,7 @@ use Rattle.networks.specs.Net.{Net}
 use Rattle.plan.specs.declared.step.Step.{Step}
 use Rattle.plan.specs.Entries.{Work, Most, entry}
 use Rattle.plan.specs.Rounds.{Walk, Rounds}
-use Rattle.plan.specs.Searches.{Reached, Deep, Searched}
+use Rattle.plan.specs.Searches.{Reached, Searched}
 use Rattle.plan.specs.Starts.{Zeros}
 use Rattle.plan.specs.Steps.{Leads}
 

@@ -1,5 +1,5 @@
 -- What each way out of a settle does to the run of a plan.
-use Rattle.std.proofs.Common.{◌≡◌, ℕ, ◌<◌, ◌≤◌, Bool, true, false, cond, ◌||◌, eqb, ltb, ◌⊎◌, List, ◌∷◌, Some, None, sym, refl, ap, ◌∙◌, subst, ⊎_elim, arith, le-ltb, lt-ltb}
+use Rattle.std.proofs.Common.{◌≡◌, ℕ, ◌<◌, ◌≤◌, true, false, cond, ◌||◌, eqb, ltb, ◌⊎◌, List, Some, None, sym, ap, ◌∙◌, subst, ⊎_elim, arith, le-ltb, lt-ltb}
 use Rattle.std.proofs.lemmas.Bool.{eq-eqb, ne_eqb}
 use Rattle.costs.specs.Kind.{Kind}
 use Rattle.networks.specs.Net.{Net}
@@ -12,10 +12,10 @@ use Rattle.plan.specs.declared.planner.Plan.{Plan}
 use Rattle.plan.specs.Checks.{or_else, when, settle_fault}
 use Rattle.plan.specs.Plans.{plan_state, Runs, Stepped}
 use Rattle.plan.specs.Routings.{Settles}
-use Rattle.plan.specs.Rules.{Rule, settle_refused, settle_ran}
+use Rattle.plan.specs.Rules.{settle_refused, settle_ran}
 use Rattle.plan.specs.Sendings.{AsLong}
 use Rattle.plan.specs.Standing.{Standing}
-use Rattle.plan.specs.State.{State, closed, Event}
+use Rattle.plan.specs.State.{closed, Event}
 use Rattle.plan.specs.Tables.{state_of}
 use Rattle.plan.proofs.RouteEnds.{is_open, open_stands}
 use Rattle.plan.proofs.Lawful.{stepped}

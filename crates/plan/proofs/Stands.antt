@@ -8,7 +8,7 @@ use Rattle.networks.specs.Net.{Net}
 use Rattle.plan.specs.Loads.{leaving}
 use Rattle.plan.specs.Steps.{Losing}
 use Rattle.plan.specs.declared.calls.Answer.{Answer}
-use Rattle.plan.specs.declared.calls.Answer.TheVariants.{Opened, Booked, Settled, Blocked, Ran}
+use Rattle.plan.specs.declared.calls.Answer.TheVariants.{Opened, Booked, Ran}
 use Rattle.plan.specs.declared.calls.Call.{Call}
 use Rattle.plan.specs.declared.calls.Call.TheVariants.{Open, Book, Settle}
 use Rattle.plan.specs.declared.calls.Ending.{Ending}

@@ -1,4 +1,4 @@
-use Rattle.std.proofs.Common.{◌≡◌, ◌<◌, ◌≤◌, length, Some, sym, ap, ◌∙◌, subst, arith}
+use Rattle.std.proofs.Common.{◌<◌, ◌≤◌, length, ap, ◌∙◌, arith}
 use Rattle.plan.specs.Checks.{fault_of_ways}
 use Rattle.plan.proofs.Checked.{way_there, asked, faulty_way, fair_way, past_all}
 use Rattle.plan.proofs.checks.ways_fault.Goals as goal

@@ -1,5 +1,5 @@
 -- A search of the first places of the tables leaves the rest.
-use Rattle.std.proofs.Common.{◌≡◌, ℕ, ◌-◌, ◌<◌, length, take, sym, subst}
+use Rattle.std.proofs.Common.{ℕ, ◌<◌, sym, subst}
 use Rattle.plan.specs.Entries.{Work, tables, Fits}
 use Rattle.plan.specs.Searches.{Searched}
 use Rattle.plan.proofs.Fronting.{front_length, front_level, fronts, past_after}

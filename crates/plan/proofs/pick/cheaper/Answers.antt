@@ -1,4 +1,4 @@
-use Rattle.std.proofs.Common.{◌≡◌, sym, ap, subst, rules}
+use Rattle.std.proofs.Common.{subst}
 use Rattle.costs.specs.Group.{Below}
 use Rattle.plan.proofs.Picking.{as_read, at_most}
 use Rattle.plan.proofs.pick.cheaper.Goals as goal

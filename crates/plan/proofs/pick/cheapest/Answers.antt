@@ -1,4 +1,4 @@
-use Rattle.std.proofs.Common.{◌≡◌, length, subst, arith, rules}
+use Rattle.std.proofs.Common.{◌≡◌, length, subst, arith}
 use Rattle.plan.specs.Entries.{tables}
 use Rattle.plan.specs.Picks.{Picked}
 use Rattle.plan.proofs.pick.cheapest.Goals as goal

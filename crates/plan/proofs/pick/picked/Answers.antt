@@ -1,4 +1,4 @@
-use Rattle.std.proofs.Common.{◌≡◌, ◌<◌, length, get_or, pos, ◌≤ℤ◌, ◌<ℤ◌, sym, subst, rules}
+use Rattle.std.proofs.Common.{◌<◌, length, get_or, pos, ◌≤ℤ◌, ◌<ℤ◌, subst, rules}
 use Rattle.plan.proofs.Picking.{some_value, wants_by, has_rest, not_seen, wanted_value, skipped, first, taken, left}
 use Rattle.plan.specs.Picks.{Cheapest, Picked}
 use Rattle.plan.specs.Entries.{tables}

@@ -1,4 +1,4 @@
-use Rattle.std.proofs.Common.{◌≡◌, ℕ, List, ◌∷◌, length, get_or, drop, vec_items, sym, refl, ap, ◌∙◌, subst, subst₂, arith, length-set}
+use Rattle.std.proofs.Common.{◌≡◌, ℕ, List, ◌∷◌, length, get_or, drop, vec_items, sym, refl, ◌∙◌, subst, subst₂, arith, length-set}
 use Rattle.plan.specs.State.{Event}
 use Rattle.plan.specs.declared.calls.Call.TheVariants.{Open}
 use Rattle.plan.specs.Histories.{events}

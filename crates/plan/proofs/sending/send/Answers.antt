@@ -1,5 +1,5 @@
 -- Each turn takes the next step of the route.
-use Rattle.std.proofs.Common.{◌≡◌, sym, refl, subst, arith}
+use Rattle.std.proofs.Common.{◌≡◌, refl, subst, arith}
 use Rattle.plan.proofs.Loading.{ToGo, gone, go_step}
 use Rattle.plan.proofs.sending.send.Goals as goal
 

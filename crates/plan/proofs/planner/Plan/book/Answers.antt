@@ -1,4 +1,3 @@
-use Rattle.std.proofs.Common.{refl}
 use Rattle.plan.proofs.Booked.{book_closed, book_done, book_unaltered}
 use Rattle.plan.proofs.planner.Plan.book.Goals as goal
 

@@ -1,4 +1,4 @@
-use Rattle.std.proofs.Common.{◌≡◌, min, length, refl, ap, ◌∙◌}
+use Rattle.std.proofs.Common.{min, length, refl, ap, ◌∙◌}
 use lib.ListN.{length-replicate}
 use Rattle.plan.specs.Law.{start}
 use Rattle.plan.proofs.planner.Plan.new.Goals as goal

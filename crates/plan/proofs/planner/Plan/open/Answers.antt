@@ -1,4 +1,4 @@
-use Rattle.std.proofs.Common.{◌≡◌, length, Ok, Err, sym, refl, ap, ◌∙◌, arith}
+use Rattle.std.proofs.Common.{length, Ok, Err, refl, ◌∙◌, arith}
 use Rattle.networks.specs.declared.refusal.Refusal.TheVariants.{LosingRing}
 use Rattle.plan.proofs.Opened.{none_early, both_closed, open_already, open_faulty, open_short, open_loses, open_done}
 use Rattle.plan.proofs.planner.Plan.open.Goals as goal

@@ -1,4 +1,4 @@
-use Rattle.std.proofs.Common.{◌≡◌, length, sym, refl, ◌∙◌, subst₂}
+use Rattle.std.proofs.Common.{length, sym, refl, subst₂}
 use Rattle.plan.specs.Plans.{Stepped}
 use Rattle.plan.proofs.planner.Plan.perform.Goals as goal
 

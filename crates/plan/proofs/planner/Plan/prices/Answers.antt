@@ -1,4 +1,4 @@
-use Rattle.std.proofs.Common.{◌≡◌, refl, arith}
+use Rattle.std.proofs.Common.{refl, arith}
 use Rattle.plan.proofs.Asking.{asked_state, asked, prices_closed, prices_short, prices_done}
 use Rattle.plan.proofs.planner.Plan.prices.Goals as goal
 

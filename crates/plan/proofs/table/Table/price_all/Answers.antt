@@ -1,4 +1,4 @@
-use Rattle.std.proofs.Common.{◌≡◌, drop, vec_items, sym, refl, ap, ◌∙◌, subst, arith}
+use Rattle.std.proofs.Common.{◌≡◌, drop, vec_items, sym, refl, subst, arith}
 use Rattle.plan.specs.Entries.{Fits, tables}
 use Rattle.plan.proofs.Deciding.{passed, fits}
 use Rattle.plan.proofs.Quoted.{quoted_by}

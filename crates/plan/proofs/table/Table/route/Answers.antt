@@ -1,4 +1,4 @@
-use Rattle.std.proofs.Common.{◌≡◌, ◌<◌, length, vec_items, vec_len, sym, refl, ap, ◌∙◌, subst, arith}
+use Rattle.std.proofs.Common.{◌<◌, vec_items, vec_len, refl, ap, ◌∙◌, subst}
 use Rattle.plan.specs.Picks.{Spent, Lowest}
 use Rattle.plan.specs.Tables.{state_of}
 use Rattle.plan.proofs.Routings.{source_by, rest_by, same_state, sent_by}

@@ -1,7 +1,6 @@
-use Rattle.std.proofs.Common.{◌≡◌, vec_len, sym, refl, ap, ◌∙◌, subst, arith}
+use Rattle.std.proofs.Common.{◌≡◌, refl, ◌∙◌, subst, arith}
 use Rattle.plan.specs.Picks.{Spent, Lowest}
 use Rattle.plan.specs.Rules.{Repeats, none}
-use Rattle.plan.specs.Sendings.{AsLong}
 use Rattle.plan.specs.Tables.{state_of}
 use Rattle.plan.proofs.Repeating.{one_more, ends_settled, ends_blocked, ends_unfinished, longer}
 use Rattle.plan.proofs.Routings.{source_by, rest_by}

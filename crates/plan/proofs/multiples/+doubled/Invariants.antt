@@ -1,0 +1,4 @@
+use Rattle.plan.proofs.multiples.+doubled.Given as goal
+
+abbrev pub decreases-doubled : goal.decreases-doubled
+decreases-doubled g l = l.n
