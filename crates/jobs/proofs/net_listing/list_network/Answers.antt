@@ -9,14 +9,14 @@ pub unreachable-requires : goal.unreachable-requires
 unreachable-requires c =
     let e = c.ways-k-end.ensures in
     let l : c.loop-k.k < length (section_net c.args.net.now).ways = omega arith in
-    there (section_net c.args.net.now).ways c.loop-k.k l c.in-default.ensures
+    there (section_net c.args.net.now).ways c.loop-k.k l c.in_default.ensures
 
 pub loop-k-preserved : goal.loop-k-preserved
 loop-k-preserved c =
-    c.in-ok-push-str.ensures.bytes
+    c.in_ok-push_str.ensures.bytes
     ∙ one_way_more (section_net c.args.net.now).ways c.loop-k.k c.in-Some.ends c.in-Some-cost.cost
     (net_header (section_net c.args.net.now).places (length (section_net c.args.net.now).ways)) _ _
-    c.in-Some.ensures c.in-Some-cost.ensures c.loop-k.invariant (c.as-str.ensures.value ∙ c.in-ok-line.ensures)
+    c.in-Some.ensures c.in-Some-cost.ensures c.loop-k.invariant (c.as_str.ensures.value ∙ c.in_ok-line.ensures)
 
 pub returns : goal.returns
 returns c =
