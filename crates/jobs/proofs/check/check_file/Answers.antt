@@ -1,4 +1,4 @@
-use Rattle.std.proofs.Common.{◌≡◌, ◌+◌, ◌≤◌, [], refl, rules}
+use Rattle.std.proofs.Common.{◌+◌, ◌≤◌, [], refl, rules}
 use Rattle.std.proofs.lemmas.Result.{err_from_is_err_and}
 use Rattle.jobs.proofs.Progress.{came, nearer, one_more, came_to_end, came_to_fault, counted, count_fits, some_came, none_came}
 use Rattle.jobs.proofs.check.check_file.Goals as goal

@@ -1,5 +1,4 @@
-use Rattle.std.proofs.Common.{◌≡◌, [], ◌∷◌, ◌++◌, length, sym, refl, ap, ◌∙◌, arith, length-append, rules}
-use Rattle.std.proofs.lemmas.Result.{err_from_is_err_and}
+use Rattle.std.proofs.Common.{[], length, sym, refl, ap, ◌∙◌, arith, length-append}
 use Rattle.jobs.specs.Entries.{record_of}
 use Rattle.jobs.specs.Files.{written}
 use Rattle.jobs.specs.Writing.{put_at}

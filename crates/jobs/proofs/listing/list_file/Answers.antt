@@ -1,4 +1,4 @@
-use Rattle.std.proofs.Common.{◌≡◌, ◌+◌, ◌≤◌, [], ◌++◌, string_bytes, refl, ap, ◌∙◌, inl, inr, rules}
+use Rattle.std.proofs.Common.{◌+◌, ◌≤◌, [], refl, ◌∙◌, inl, inr, rules}
 use Rattle.std.proofs.lemmas.Result.{IfOk-weaker}
 use Rattle.jobs.proofs.Lined.{one_line_more}
 use Rattle.jobs.proofs.Progress.{came, nearer, one_more, came_to_end, came_to_fault, counted, count_fits, some_came, none_came}

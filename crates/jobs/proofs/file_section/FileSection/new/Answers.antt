@@ -1,6 +1,5 @@
-use Rattle.std.proofs.Common.{◌≡◌, refl, ap, ◌∙◌, arith}
-use Rattle.networks.specs.Net.{Net}
-use Rattle.jobs.proofs.Sectioned.{places_told, ways_whole, ways_found, section_told}
+use Rattle.std.proofs.Common.{refl, arith}
+use Rattle.jobs.proofs.Sectioned.{ways_whole, section_told}
 use Rattle.jobs.proofs.file_section.FileSection.new.Goals as goal
 
 pub invariant_of-result-2 : goal.invariant_of-result-2

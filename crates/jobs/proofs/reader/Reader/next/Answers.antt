@@ -1,4 +1,4 @@
-use Rattle.std.proofs.Common.{◌<◌, ◌≤◌, true, false, length, sym, refl, ◌∙◌, arith, rules}
+use Rattle.std.proofs.Common.{sym, refl, ◌∙◌, arith, rules}
 use denote.Enum.Bare.{differs_true, differs_false}
 use Rattle.jobs.specs.Files.{too_long}
 use Rattle.jobs.specs.contracts.section.Section.{the_type}
