@@ -1,13 +1,11 @@
 -- No good file has a fault, and any other has exactly one.
-use Rattle.std.proofs.Common.{◌≡◌, ℕ, ◌+◌, ◌<◌, ◌≤◌, ◌⊎◌, List, [], ◌∷◌, ◌++◌, length, sym, refl, ap, ◌∙◌, subst, inl, inr, append_assoc, append-nil, arith, length-append}
-use Rattle.std.specs.List.{AllByRecursion as All}
+use Rattle.std.proofs.Common.{◌≡◌, ℕ, List, [], ◌∷◌, ◌++◌, length, sym, refl, ap, ◌∙◌, subst, inl, inr, append_assoc, append-nil, arith, length-append}
 use Rattle.jobs.specs.declared.entry.Entry.{Entry}
 use Rattle.jobs.specs.declared.form.Form.{Form}
-use Rattle.jobs.specs.declared.kind.Kind.{Kind}
 use Rattle.networks.specs.declared.refusal.Refusal.{Refusal}
-use Rattle.jobs.specs.Kinds.{kind_byte, body_len_lem}
-use Rattle.jobs.specs.Entries.{kind_of, body_of, record_of, Fits}
-use Rattle.jobs.specs.Files.{written, Lawful, longest, Holds, Good, Begun, InPlace, Wrong, unknown, misplaced, cut, missing, Faulty, too_long, after}
+use Rattle.jobs.specs.Kinds.{body_len_lem}
+use Rattle.jobs.specs.Entries.{kind_of, body_of, record_of}
+use Rattle.jobs.specs.Files.{written, Lawful, Good, InPlace, Wrong, unknown, misplaced, cut, missing, Faulty, too_long, after}
 use Rattle.jobs.proofs.Parsed.{one_kind, length_body, one_goes_on}
 
 -- where something is wrong, no record that is in place stands

@@ -1,6 +1,5 @@
 pub mod Listed
 pub mod Signs
-pub mod Compared
 pub mod Places
 pub mod Turns
 pub mod Parsed

@@ -1,5 +1,5 @@
 -- The words of a way, and that one record more is one line more.
-use Rattle.std.proofs.Common.{◌≡◌, ℕ, ◌+◌, ◌-◌, List, [], ◌∷◌, ◌++◌, length, ℤ, codes, decimal, sym, refl, ap, ◌∙◌, append_assoc, append-nil, add-zero, add_assoc, zero-add, arith, length-append}
+use Rattle.std.proofs.Common.{◌≡◌, ℕ, ◌+◌, ◌-◌, List, [], ◌∷◌, ◌++◌, length, ℤ, codes, decimal, sym, ap, ◌∙◌, append_assoc, append-nil, add-zero, zero-add, arith, length-append}
 use Rattle.jobs.specs.declared.entry.Entry.{Entry}
 use Rattle.jobs.specs.declared.entry.Entry.TheVariants.{Way}
 use Rattle.jobs.specs.Entries.{record_of}

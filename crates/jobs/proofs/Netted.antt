@@ -1,5 +1,5 @@
 -- The lines of a network's ways, one more with each way that was asked for.
-use Rattle.std.proofs.Common.{◌≡◌, ℕ, zero, suc, ◌+◌, ◌<◌, ◌≤◌, List, [], ◌∷◌, ◌++◌, length, take, Some, None, Option, sym, refl, ap, ◌∙◌, subst, append_assoc, append-nil, add-zero, zero-add, add-one, arith}
+use Rattle.std.proofs.Common.{◌≡◌, ℕ, zero, suc, ◌+◌, ◌<◌, List, [], ◌∷◌, ◌++◌, length, take, Some, None, Option, sym, ap, ◌∙◌, append_assoc, append-nil, add-zero, zero-add, add-one, arith}
 use Rattle.std.specs.List.{slice_get}
 use Rattle.costs.specs.declared.pair.Pair.{Pair}
 use Rattle.costs.specs.declared.whole.Whole.{Whole}

@@ -1,5 +1,5 @@
 -- A record is told from its bytes: no two entries have the same, and no list of bytes begins with two.
-use Rattle.std.proofs.Common.{◌≡◌, ℕ, zero, suc, ◌+◌, ◌-◌, ◌*◌, ◌/◌, ◌%◌, ◌^◌, ◌<◌, ◌≤◌, Bool, true, false, cond, eqb, ◌⊎◌, List, [], ◌∷◌, ◌++◌, length, get_or, ℤ, pos, negsuc, sym, refl, ap, ◌∙◌, subst, inl, inr, append_assoc, append-nil, arith, length-append, w32, SFits, to_z, of_z}
+use Rattle.std.proofs.Common.{◌≡◌, ℕ, ◌+◌, ◌*◌, ◌/◌, ◌%◌, ◌^◌, ◌<◌, cond, eqb, ◌⊎◌, List, [], ◌∷◌, ◌++◌, length, ℤ, pos, negsuc, sym, refl, ap, ◌∙◌, inl, inr, append_assoc, arith, w32, to_z}
 use lib.Signed.{mag}
 use Rattle.std.specs.List.{AllByRecursion as All}
 use Rattle.std.proofs.lemmas.Int.{to_z-of_z}
@@ -7,7 +7,7 @@ use Rattle.jobs.specs.declared.entry.Entry.{Entry}
 use Rattle.jobs.specs.declared.entry.Entry.TheVariants as entry
 use Rattle.jobs.specs.declared.kind.Kind.{Kind}
 use Rattle.jobs.specs.declared.kind.Kind.TheVariants as kind
-use Rattle.jobs.specs.Bytes.{two_bytes, four_bytes, unsigned}
+use Rattle.jobs.specs.Bytes.{two_bytes, unsigned}
 use Rattle.jobs.specs.Kinds.{kind_byte, body_len_lem}
 use Rattle.jobs.specs.Entries.{kind_of, body_of, record_of, Fits, two_at, four_at, signed_at}
 use Rattle.jobs.specs.Files.{written}

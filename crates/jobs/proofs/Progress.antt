@@ -1,13 +1,12 @@
 -- How far a loop over the records of a file has come.
-use Rattle.std.proofs.Common.{◌≡◌, ℕ, suc, ◌+◌, ◌-◌, ◌<◌, ◌≤◌, List, [], ◌∷◌, ◌++◌, length, Some, None, Ok, Err, Option, Result, sym, refl, ap, ◌∙◌, subst, arith, length-append}
-use Rattle.std.specs.List.{AllByRecursion as All}
+use Rattle.std.proofs.Common.{◌≡◌, ℕ, ◌+◌, ◌-◌, ◌<◌, ◌≤◌, List, [], ◌∷◌, ◌++◌, length, Some, None, Ok, Err, Option, Result, ap, ◌∙◌, subst, arith, length-append}
 use Rattle.jobs.specs.declared.entry.Entry.{Entry}
 use Rattle.jobs.specs.declared.fault.Fault.{Fault}
 use Rattle.jobs.specs.declared.form.Form.{Form}
 use Rattle.jobs.specs.declared.reader.Reader.{Reader}
 use Rattle.jobs.specs.declared.record.Record.{Record}
 use Rattle.jobs.specs.Entries.{record_of}
-use Rattle.jobs.specs.Files.{written, Holds, Good, Faulty, First}
+use Rattle.jobs.specs.Files.{written, Holds, Faulty, First}
 use Rattle.jobs.specs.Reading.{Read, Comes, Next}
 use Rattle.jobs.proofs.Faults.{no_fault, one_fault}
 use Rattle.jobs.proofs.Turns.{written_push}

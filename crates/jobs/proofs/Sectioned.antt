@@ -1,9 +1,9 @@
 -- The ways of a good job stand in the file one after the other, from the sixth byte on, and a file section finds them there.
-use Rattle.std.proofs.Common.{◌≡◌, ℕ, zero, suc, ◌+◌, ◌-◌, ◌*◌, ◌^◌, ◌<◌, ◌≤◌, List, [], ◌∷◌, ◌++◌, map, length, get_or, take, drop, ℤ, pos, Some, None, sym, refl, ap, ◌∙◌, subst, append_assoc, append-nil, zero-add, arith, length-append}
+use Rattle.std.proofs.Common.{◌≡◌, ℕ, ◌+◌, ◌-◌, ◌*◌, ◌^◌, ◌<◌, ◌≤◌, List, [], ◌∷◌, ◌++◌, map, length, get_or, take, drop, ℤ, pos, Some, None, sym, refl, ap, ◌∙◌, subst, append_assoc, zero-add, arith, length-append}
 use Rattle.std.specs.List.{slice_get, range_with_len, AllByRecursion as All}
 use Rattle.std.proofs.lemmas.List.FromFn.{length-map-range_with_len, get_or-map-range_with_len}
 use Rattle.std.proofs.lemmas.Option.{slice_get-get_or, slice_get_past}
-use Rattle.std.proofs.lemmas.List.{take_at, drop_at, drop-drop}
+use Rattle.std.proofs.lemmas.List.{take_at, drop_at}
 use Rattle.costs.specs.declared.pair.Pair.{Pair}
 use Rattle.costs.specs.declared.whole.Whole.{Whole}
 use Rattle.networks.specs.Net.{Way, Net}
@@ -11,13 +11,12 @@ use Rattle.jobs.specs.declared.entry.Entry.{Entry}
 use Rattle.jobs.specs.declared.entry.Entry.TheVariants as entry
 use Rattle.jobs.specs.declared.form.Form.TheVariants as form
 use Rattle.jobs.specs.declared.kind.Kind.TheVariants as kind
-use Rattle.jobs.specs.declared.section.Section.{Section}
 use Rattle.jobs.specs.declared.section.Section.TheVariants as section
 use Rattle.jobs.specs.Bytes.{two_bytes}
 use Rattle.jobs.specs.Entries.{body_of, record_of, Fits, Spells}
-use Rattle.jobs.specs.Files.{written, In, Job, Holds, Good}
+use Rattle.jobs.specs.Files.{written, In, Job, Holds}
 use Rattle.jobs.specs.Sections.{cost_of, ways_of, places_of, net_of, way_at}
-use Rattle.jobs.proofs.Parsed.{entry_at, entry_back, length_body, two_same}
+use Rattle.jobs.proofs.Parsed.{entry_at, entry_back, two_same}
 
 -- an entry of the listing is a way
 a_way : (P : Entry → Type 0) → ((t h l : ℕ) (r m : ℤ) → P (entry.Way t h l r m)) → (e : Entry) → In section.Listing e → P e

@@ -1,6 +1,5 @@
 -- What one turn of a reader finds, from what it had handed out before.
-use Rattle.std.proofs.Common.{◌≡◌, ℕ, zero, suc, ◌+◌, ◌-◌, ◌<◌, ◌≤◌, Bool, true, false, List, [], ◌∷◌, ◌++◌, length, get_or, take, drop, sym, refl, ap, ◌∙◌, subst, append_assoc, append-nil, arith, length-append, length-drop, length-take}
-use Rattle.std.specs.List.{AllByRecursion as All}
+use Rattle.std.proofs.Common.{◌≡◌, ℕ, ◌+◌, ◌-◌, ◌<◌, ◌≤◌, true, false, List, [], ◌∷◌, ◌++◌, length, get_or, take, drop, sym, ap, ◌∙◌, subst, append_assoc, append-nil, arith, length-append, length-drop}
 use Rattle.std.proofs.ByRecursion.{All-push}
 use Rattle.std.proofs.lemmas.List.{drop-drop, drop_all, take_rest, take-append-drop, length-take-le}
 use Rattle.std.proofs.lemmas.Slice.{first_rest}
@@ -9,9 +8,9 @@ use Rattle.jobs.specs.declared.form.Form.{Form}
 use Rattle.jobs.specs.declared.kind.Kind.{Kind}
 use Rattle.jobs.specs.declared.reader.Reader.{Reader}
 use Rattle.networks.specs.declared.refusal.Refusal.{Refusal}
-use Rattle.networks.specs.declared.refusal.Refusal.TheVariants.{CutShort, UnknownKind, OutOfPlace, LongFile}
+use Rattle.networks.specs.declared.refusal.Refusal.TheVariants.{CutShort, UnknownKind, OutOfPlace}
 use Rattle.jobs.specs.Kinds.{kind_byte, body_len_lem, section_of}
-use Rattle.jobs.specs.Entries.{kind_of, body_of, record_of, Fits, Spells}
+use Rattle.jobs.specs.Entries.{body_of, record_of, Spells}
 use Rattle.jobs.specs.Files.{written, longest, Holds, Begun, Wrong, unknown, misplaced, cut, missing, Faulty, after as fault-after}
 use Rattle.jobs.specs.Reading.{Due, due_section, complete, after, Read}
 use Rattle.jobs.proofs.Places.{may_come, only_due, may_end, not_yet, goes_on, due_after}

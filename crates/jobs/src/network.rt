@@ -8,7 +8,7 @@ use super::entry::Entry;
 use super::file_section::FileSection;
 use super::form::Form;
 use super::kind::Kind;
-use costs::{Cost, Cost as _, Pair, Whole};
+use costs::{Cost, Pair, Whole};
 use networks::{Ends, Network};
 
 impl<'a> FileSection<'a> {

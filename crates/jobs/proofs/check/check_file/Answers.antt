@@ -1,4 +1,4 @@
-use Rattle.std.proofs.Common.{◌≡◌, ◌+◌, ◌≤◌, [], refl, rules}
+use Rattle.std.proofs.Common.{◌+◌, ◌≤◌, [], refl, rules}
 use Rattle.std.proofs.lemmas.Result.{err_from_is_err_and}
 use Rattle.jobs.proofs.Progress.{came, nearer, one_more, came_to_end, came_to_fault, counted, count_fits, some_came, none_came}
 use Rattle.jobs.proofs.check.check_file.Goals as goal
@@ -6,29 +6,29 @@ use Rattle.jobs.proofs.check.check_file.Goals as goal
 pub loop-records-init : goal.loop-records-init
 loop-records-init c = record { same = c.new-reader.ensures.same; read = λ f d. ([], d, refl) }
 
-pub returns-in-err-next : goal.returns-in-err-next
-returns-in-err-next c =
-    let p = err_from_is_err_and c.from-residual.result c.from-residual.ensures.1 in
-    rw (p.1, p.2) (came_to_fault _ _ _ _ _ c.loop-records.invariant c.in-err-next.field-0.0 c.in-err-next.ensures c.args.form c.new-reader.ensures.none)
+pub returns-in_err-next : goal.returns-in_err-next
+returns-in_err-next c =
+    let p = err_from_is_err_and c.from_residual.result c.from_residual.ensures.1 in
+    rw (p.1, p.2) (came_to_fault _ _ _ _ _ c.loop-records.invariant c.in_err-next.field-0.0 c.in_err-next.ensures c.args.form c.new-reader.ensures.none)
 
-pub overflow-add-records : goal.overflow-add-records
-overflow-add-records c =
+pub overflow_add-records : goal.overflow_add-records
+overflow_add-records c =
     let e = c.loop-records.invariant.read c.args.form c.new-reader.ensures.none in
-    let x = came _ _ _ _ _ c.loop-records.invariant c.in-Some.field-0 (some_came c.in-Some.field-0 c.in-Some.is c.in-ok-next.ensures) c.args.form c.new-reader.ensures.none in
+    let x = came _ _ _ _ _ c.loop-records.invariant c.in-Some.field-0 (some_came c.in-Some.field-0 c.in-Some.is c.in_ok-next.ensures) c.args.form c.new-reader.ensures.none in
     let k : c.loop-records.records + 1 ≤ c.next.new.self.offset =
     count_fits c.args.form _ c.next.new.self _ x.read (counted e.0 c.in-Some.field-0.entry _ e.2) in
     search rules
 
 pub loop-records-smaller : goal.loop-records-smaller
 loop-records-smaller c =
-    nearer _ _ _ _ _ c.loop-records.invariant c.in-Some.field-0 (some_came c.in-Some.field-0 c.in-Some.is c.in-ok-next.ensures)
+    nearer _ _ _ _ _ c.loop-records.invariant c.in-Some.field-0 (some_came c.in-Some.field-0 c.in-Some.is c.in_ok-next.ensures)
     c.args.form c.new-reader.ensures.none
 
 pub loop-records-preserved : goal.loop-records-preserved
 loop-records-preserved c =
-    one_more _ _ _ _ _ c.loop-records.invariant c.in-Some.field-0 (some_came c.in-Some.field-0 c.in-Some.is c.in-ok-next.ensures)
+    one_more _ _ _ _ _ c.loop-records.invariant c.in-Some.field-0 (some_came c.in-Some.field-0 c.in-Some.is c.in_ok-next.ensures)
     c.args.form c.new-reader.ensures.none _ (λ g es d e. counted es c.in-Some.field-0.entry _ e)
 
 pub returns : goal.returns
 returns c =
-    came_to_end _ _ _ _ _ c.loop-records.invariant (none_came c.in-default.is c.in-ok-next.ensures) c.args.form c.new-reader.ensures.none
+    came_to_end _ _ _ _ _ c.loop-records.invariant (none_came c.in_default.is c.in_ok-next.ensures) c.args.form c.new-reader.ensures.none

@@ -1,5 +1,4 @@
-use Rattle.std.proofs.Common.{◌≡◌, [], ◌∷◌, ◌++◌, length, sym, refl, ap, ◌∙◌, arith, length-append, rules}
-use Rattle.std.proofs.lemmas.Result.{err_from_is_err_and}
+use Rattle.std.proofs.Common.{[], length, sym, refl, ap, ◌∙◌, arith, length-append}
 use Rattle.jobs.specs.Entries.{record_of}
 use Rattle.jobs.specs.Files.{written}
 use Rattle.jobs.specs.Writing.{put_at}
@@ -11,19 +10,19 @@ use Rattle.jobs.proofs.copy.copy_file.Goals as goal
 pub loop-record-init : goal.loop-record-init
 loop-record-init c = record { same = c.new-reader.ensures.same; read = λ f d. ([], d, (refl, put_none _)) }
 
-pub returns-in-err-record : goal.returns-in-err-record
-returns-in-err-record c =
-    let good = c.in-ok-check-file.ensures in
-    absurd ((came_to_fault _ _ _ _ _ c.loop-record.invariant c.in-err-record.field-0.0 c.in-err-record.ensures c.args.form c.new-reader.ensures.none).bad (good.0, good.1))
+pub returns-in_err-record : goal.returns-in_err-record
+returns-in_err-record c =
+    let good = c.in_ok-check_file.ensures in
+    absurd ((came_to_fault _ _ _ _ _ c.loop-record.invariant c.in_err-record.field-0.0 c.in_err-record.ensures c.args.form c.new-reader.ensures.none).bad (good.0, good.1))
 
 pub loop-record-smaller : goal.loop-record-smaller
 loop-record-smaller c =
-    nearer _ _ _ _ _ c.loop-record.invariant c.in-Some.record (some_came c.in-Some.record c.in-Some.is c.in-ok-record.ensures)
+    nearer _ _ _ _ _ c.loop-record.invariant c.in-Some.record (some_came c.in-Some.record c.in-Some.is c.in_ok-record.ensures)
     c.args.form c.new-reader.ensures.none
 
 pub loop-record-preserved : goal.loop-record-preserved
 loop-record-preserved c =
-    one_more _ _ _ _ _ c.loop-record.invariant c.in-Some.record (some_came c.in-Some.record c.in-Some.is c.in-ok-record.ensures)
+    one_more _ _ _ _ _ c.loop-record.invariant c.in-Some.record (some_came c.in-Some.record c.in-Some.is c.in_ok-record.ensures)
     c.args.form c.new-reader.ensures.none _
     (λ g es d p.
     let e = c.in-Some.record.entry in
@@ -37,7 +36,7 @@ pub returns-in-Err : goal.returns-in-Err
 returns-in-Err c =
     let e = c.in-Some.record.entry in
     let r = c.loop-record.invariant.read c.args.form c.new-reader.ensures.none in
-    let x = came _ _ _ _ _ c.loop-record.invariant c.in-Some.record (some_came c.in-Some.record c.in-Some.is c.in-ok-record.ensures) c.args.form c.new-reader.ensures.none in
+    let x = came _ _ _ _ _ c.loop-record.invariant c.in-Some.record (some_came c.in-Some.record c.in-Some.is c.in_ok-record.ensures) c.args.form c.new-reader.ensures.none in
     let n = ap length (written_push r.0 e) ∙ length-append (written r.0) (record_of e) in
     let at = x.read.place in
     let within = c.next.new.self.within in
@@ -49,6 +48,6 @@ returns-in-Err c =
 
 pub returns : goal.returns
 returns c =
-    let e = came_to_end _ _ _ _ _ c.loop-record.invariant (none_came c.in-default.is c.in-ok-record.ensures) c.args.form c.new-reader.ensures.none in
+    let e = came_to_end _ _ _ _ _ c.loop-record.invariant (none_came c.in_default.is c.in_ok-record.ensures) c.args.form c.new-reader.ensures.none in
     let h = e.1.spelled in
     ((e.0, e.1), c.if-table-bytes.false, e.2.0 ∙ ap length (sym h), e.2.1 ∙ ap (put_at c.args.table.now 0) (sym h))

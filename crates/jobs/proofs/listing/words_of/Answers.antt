@@ -9,12 +9,12 @@ pub returns-in-Head : goal.returns-in-Head
 returns-in-Head c =
     IfOk-weaker c.format.result _ _ (λ s e. e ∙ ((simp append_assoc) ∙ ap (words c.args.index) (sym c.in-Head.is))) c.format.ensures.ok
 
-pub returns-in-ok-cost : goal.returns-in-ok-cost
-returns-in-ok-cost c =
-    let w : c.saturating-sub-way.result ≡ c.args.index - 1 = c.saturating-sub-way.ensures in
+pub returns-in_ok-cost-in-Way : goal.returns-in_ok-cost-in-Way
+returns-in_ok-cost-in-Way c =
+    let w : c.saturating_sub-way.result ≡ c.args.index - 1 = c.saturating_sub-way.ensures in
     let f : SFits w32 c.in-Way.redraws = search rules in
     let g : SFits w32 c.in-Way.misfit = search rules in
-    let k : string_bytes c.in-ok-cost.cost ≡ words_of_cost_lem c.in-Way.limit c.in-Way.redraws c.in-Way.misfit = simp (to_z-of_z w32 c.in-Way.redraws f, to_z-of_z w32 c.in-Way.misfit g) at c.in-ok-cost.ensures in
+    let k : string_bytes c.in_ok-cost-in-Way.cost ≡ words_of_cost_lem c.in-Way.limit c.in-Way.redraws c.in-Way.misfit = simp (to_z-of_z w32 c.in-Way.redraws f, to_z-of_z w32 c.in-Way.misfit g) at c.in_ok-cost-in-Way.ensures in
     IfOk-weaker c.format-in-Way.result _ _ (λ s e. e ∙ (way_words _ _ c.in-Way.tail c.in-Way.head _ _ _ _ w k ∙ ap (words c.args.index) (sym c.in-Way.is))) c.format-in-Way.ensures.ok
 
 pub returns-in-Book : goal.returns-in-Book

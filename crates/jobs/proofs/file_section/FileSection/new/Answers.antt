@@ -1,18 +1,17 @@
-use Rattle.std.proofs.Common.{◌≡◌, refl, ap, ◌∙◌}
-use Rattle.networks.specs.Net.{Net}
-use Rattle.jobs.proofs.Sectioned.{places_told, ways_whole, ways_found, section_told}
+use Rattle.std.proofs.Common.{refl, arith}
+use Rattle.jobs.proofs.Sectioned.{ways_whole, section_told}
 use Rattle.jobs.proofs.file_section.FileSection.new.Goals as goal
 
-pub invariant-of-result-2 : goal.invariant-of-result-2
-invariant-of-result-2 c =
+pub invariant_of-result-2 : goal.invariant_of-result-2
+invariant_of-result-2 c =
     let h = c.in-Ok.ensures in
-    (ways_whole c.args.bytes.now h.0 h.1 c.two-2.result c.two-2.type-inv c.two-2.ensures, tt)
+    record { whole = ways_whole c.args.bytes.now h.0 h.1 c.two-2.result (omega arith) c.two-2.ensures }
 
 pub returns : goal.returns
 returns c =
     let h = c.in-Ok.ensures in
     record {
       same = refl;
-      told = λ es k. section_told c.args.bytes.now es k c.two.result c.two-2.result c.two.type-inv c.two-2.type-inv c.two.ensures c.two-2.ensures;
+      told = λ es k. section_told c.args.bytes.now es k c.two.result c.two-2.result (omega arith) (omega arith) c.two.ensures c.two-2.ensures;
       nothing = λ never. absurd (never (h.0, h.1));
     }

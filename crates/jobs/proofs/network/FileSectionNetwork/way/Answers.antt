@@ -9,4 +9,4 @@ returns-then-k-self c = sym (ap ends_of (no_way_asked c.args.self.now.bytes.now 
 pub returns : goal.returns
 returns c =
     sym (ap ends_of (way_asked c.args.self.now.bytes.now c.args.self.now.ways c.args.k c.if-k-self.false
-    ∙ ap (λ w. Some w) (way_said c.args.self.now.bytes.now c.args.k c.way-entry.result _ _ _ _ _ c.way-entry.ensures c.in-Way.is)))
+    ∙ ap (λ w. Some w) (way_said c.args.self.now.bytes.now c.args.k c.way_entry.result _ _ _ _ _ c.way_entry.ensures c.in-Way.is)))
