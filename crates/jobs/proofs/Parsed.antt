@@ -1,7 +1,7 @@
 -- A record is told from its bytes: no two entries have the same, and no list of bytes begins with two.
 use Rattle.std.proofs.Common.{◌≡◌, ℕ, ◌+◌, ◌*◌, ◌/◌, ◌%◌, ◌^◌, ◌<◌, cond, eqb, ◌⊎◌, List, [], ◌∷◌, ◌++◌, length, ℤ, pos, negsuc, sym, refl, ap, ◌∙◌, inl, inr, append_assoc, arith, w32, to_z}
 use lib.Signed.{mag}
-use Rattle.std.specs.List.{AllByRecursion as All}
+use Rattle.std.specs.List.{AllByRecursion}
 use Rattle.std.proofs.lemmas.Int.{to_z-of_z}
 use Rattle.jobs.specs.declared.entry.Entry.{Entry}
 use Rattle.jobs.specs.declared.entry.Entry.TheVariants as entry
@@ -115,8 +115,8 @@ one_record e e' xs ys f f' q =
     (sym (entry_back e f) ∙ ap (λ j. entry_at j (body_of e)) k ∙ ap (entry_at (kind_of e')) s.0 ∙ entry_back e' f', s.1)
 
 -- of two lists of records with which the same bytes begin, one goes on where the other ends
-pub one_goes_on : (es ds : List Entry) (xs ys : List ℕ) → All Fits es → All Fits ds → written es ++ xs ≡ written ds ++ ys →
-    ((t : List Entry) × All Fits t × (ds ≡ es ++ t) × (xs ≡ written t ++ ys)) ⊎ ((t : List Entry) × All Fits t × (es ≡ ds ++ t) × (ys ≡ written t ++ xs))
+pub one_goes_on : (es ds : List Entry) (xs ys : List ℕ) → AllByRecursion Fits es → AllByRecursion Fits ds → written es ++ xs ≡ written ds ++ ys →
+    ((t : List Entry) × AllByRecursion Fits t × (ds ≡ es ++ t) × (xs ≡ written t ++ ys)) ⊎ ((t : List Entry) × AllByRecursion Fits t × (es ≡ ds ++ t) × (ys ≡ written t ++ xs))
 one_goes_on [] ds xs ys f g e = inl (ds, g, refl, e)
 one_goes_on (x ∷ es) [] xs ys f g e = inr (x ∷ es, f, refl, sym e)
 one_goes_on (x ∷ es) (y ∷ ds) xs ys f g e =

@@ -1,7 +1,7 @@
 -- A reader's stage tells which records may come next, and whether the file may end.
 use Rattle.std.proofs.Common.{◌≡◌, ℕ, zero, suc, ◌+◌, ◌-◌, ◌<◌, ◌≤◌, Bool, true, false, cond, eqb, List, [], ◌∷◌, ◌++◌, length, replicate, pos, sym, refl, ap, ◌∙◌, subst, append_assoc, append-nil, zero-add, arith, length-append}
 use lib.ListN.{length-replicate}
-use Rattle.std.specs.List.{AllByRecursion as All}
+use Rattle.std.specs.List.{AllByRecursion}
 use Rattle.std.proofs.ByRecursion.{All-append, All-push}
 use Rattle.jobs.specs.declared.entry.Entry.{Entry}
 use Rattle.jobs.specs.declared.entry.Entry.TheVariants as entry
@@ -58,13 +58,13 @@ a_head (entry.Group length count) i = absurd (let z : ◌≡◌ {A = ℕ} 0 1 = 
 a_head (entry.Last length count) i = absurd (let z : ◌≡◌ {A = ℕ} 0 1 = cc in omega arith)
 
 -- the element between two parts lies in the first or in the second of another two, by its place
-pub in_first : {X : Type 0} (P : X → Type 0) (xs us : List X) (x : X) (ys vs : List X) → xs ++ x ∷ ys ≡ us ++ vs → length xs < length us → All P us → P x
+pub in_first : {X : Type 0} (P : X → Type 0) (xs us : List X) (x : X) (ys vs : List X) → xs ++ x ∷ ys ≡ us ++ vs → length xs < length us → AllByRecursion P us → P x
 in_first P [] [] x ys vs e l a = absurd (omega arith)
 in_first P [] (u ∷ us) x ys vs e l a = let h : x ≡ u = cc in subst P (sym h) a.0
 in_first P (y ∷ xs) [] x ys vs e l a = absurd (omega arith)
 in_first P (y ∷ xs) (u ∷ us) x ys vs e l a = let h : xs ++ x ∷ ys ≡ us ++ vs = cc in in_first P xs us x ys vs h (omega arith) a.1
 
-in_second : {X : Type 0} (P : X → Type 0) (xs us : List X) (x : X) (ys vs : List X) → xs ++ x ∷ ys ≡ us ++ vs → length us ≤ length xs → All P vs → P x
+in_second : {X : Type 0} (P : X → Type 0) (xs us : List X) (x : X) (ys vs : List X) → xs ++ x ∷ ys ≡ us ++ vs → length us ≤ length xs → AllByRecursion P vs → P x
 in_second P [] [] x ys [] e l a = absurd (let z : ◌≡◌ {A = ℕ} 0 1 = cc in omega arith)
 in_second P [] [] x ys (v ∷ vs) e l a = let h : x ≡ v = cc in subst P (sym h) a.0
 in_second P [] (u ∷ us) x ys vs e l a = absurd (omega arith)
@@ -76,7 +76,7 @@ in_second P (y ∷ xs) (u ∷ us) x ys vs e l a = let h : xs ++ x ∷ ys ≡ us 
 ways_due : ℕ → List Entry
 ways_due n = replicate n (sample kind.Way)
 
-ways_due_listed : (n : ℕ) → All (In section.Listing) (ways_due n)
+ways_due_listed : (n : ℕ) → AllByRecursion (In section.Listing) (ways_due n)
 unfolding ways_due
 ways_due_listed zero = tt
 ways_due_listed (suc n) = (in_sample kind.Way section.Listing refl, ways_due_listed n)
@@ -86,7 +86,7 @@ unfolding ways_due
 length_ways_due n = length-replicate n _
 
 -- a job that was begun so, and is made whole by the ways ws
-made_whole : (p n : ℕ) (es xs ys ws : List Entry) → es ≡ entry.Head p n ∷ xs → n ≡ length ws → xs ++ ys ≡ ws → All (In section.Listing) ws → Job (es ++ ys)
+made_whole : (p n : ℕ) (es xs ys ws : List Entry) → es ≡ entry.Head p n ∷ xs → n ≡ length ws → xs ++ ys ≡ ws → AllByRecursion (In section.Listing) ws → Job (es ++ ys)
 made_whole p n es xs ys ws d l w a =
     record { places = p; ways = ws; after = []; whole = (cc (append-nil ws)); listed = a; called = tt }
 

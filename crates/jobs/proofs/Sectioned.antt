@@ -1,6 +1,6 @@
 -- The ways of a good job stand in the file one after the other, from the sixth byte on, and a file section finds them there.
 use Rattle.std.proofs.Common.{◌≡◌, ℕ, ◌+◌, ◌-◌, ◌*◌, ◌^◌, ◌<◌, ◌≤◌, List, [], ◌∷◌, ◌++◌, map, length, get_or, take, drop, ℤ, pos, Some, None, sym, refl, ap, ◌∙◌, subst, append_assoc, zero-add, arith, length-append}
-use Rattle.std.specs.List.{slice_get, range_with_len, AllByRecursion as All}
+use Rattle.std.specs.List.{slice_get, range_with_len, AllByRecursion}
 use Rattle.std.proofs.lemmas.List.FromFn.{length-map-range_with_len, get_or-map-range_with_len}
 use Rattle.std.proofs.lemmas.Option.{slice_get-get_or, slice_get_past}
 use Rattle.std.proofs.lemmas.List.{take_at, drop_at}
@@ -42,11 +42,11 @@ not_a_way entry.Prices es i = refl
 not_a_way (entry.Group length count) es i = refl
 not_a_way (entry.Last length count) es i = refl
 
-no_ways : (es : List Entry) → All (In section.Calls) es → ways_of es ≡ []
+no_ways : (es : List Entry) → AllByRecursion (In section.Calls) es → ways_of es ≡ []
 no_ways [] a = refl
 no_ways (e ∷ es) a = not_a_way e es a.0 ∙ no_ways es a.1
 
-both_ways : (ws cs : List Entry) → All (In section.Calls) cs → ways_of (ws ++ cs) ≡ ways_of ws
+both_ways : (ws cs : List Entry) → AllByRecursion (In section.Calls) cs → ways_of (ws ++ cs) ≡ ways_of ws
 both_ways [] cs a = no_ways cs a
 both_ways (entry.Way t h l r m ∷ ws) cs a = ap (λ xs. record { tail = t; head = h; limit = l; cost = cost_of r m } ∷ xs) (both_ways ws cs a)
 both_ways (entry.Head places ways ∷ ws) cs a = both_ways ws cs a
@@ -58,7 +58,7 @@ both_ways (entry.Prices ∷ ws) cs a = both_ways ws cs a
 both_ways (entry.Group length count ∷ ws) cs a = both_ways ws cs a
 both_ways (entry.Last length count ∷ ws) cs a = both_ways ws cs a
 
-all_front : {X : Type 0} (P : X → Type 0) (xs ys : List X) → All P (xs ++ ys) → All P xs
+all_front : {X : Type 0} (P : X → Type 0) (xs ys : List X) → AllByRecursion P (xs ++ ys) → AllByRecursion P xs
 all_front P [] ys a = tt
 all_front P (x ∷ xs) ys a = (a.0, all_front P xs ys a.1)
 
@@ -67,7 +67,7 @@ written_append [] ys = refl
 written_append (x ∷ xs) ys = ap (λ bs. record_of x ++ bs) (written_append xs ys) ∙ sym (append_assoc (record_of x) (written xs) (written ys))
 
 -- each way has 17 bytes
-length_ways : (ws : List Entry) → All (In section.Listing) ws → length (written ws) ≡ 17 * length ws
+length_ways : (ws : List Entry) → AllByRecursion (In section.Listing) ws → length (written ws) ≡ 17 * length ws
 length_ways [] a = refl
 length_ways (w ∷ ws) a =
     let h : length (record_of w) ≡ 17 = a_way (λ e. length (record_of e) ≡ 17) (λ t h l r m. refl) w a.0 in
@@ -108,7 +108,7 @@ way_here bytes front rest i ws w n j =
     ap (λ x. x ∷ ways_of ws) (way_at_is bytes i ∙ ap (λ b. as_way (entry_at kind.Way b)) there ∙ ap as_way (entry_back (entry.Way t h l r m) f)))
     w j
 
-found : (bytes front rest : List ℕ) (i : ℕ) (ws : List Entry) → bytes ≡ front ++ (written ws ++ rest) → length front ≡ 17 * i + 5 → All Fits ws → All (In section.Listing) ws →
+found : (bytes front rest : List ℕ) (i : ℕ) (ws : List Entry) → bytes ≡ front ++ (written ws ++ rest) → length front ≡ 17 * i + 5 → AllByRecursion Fits ws → AllByRecursion (In section.Listing) ws →
     map (way_at bytes) (range_with_len i (length ws)) ≡ ways_of ws
 found bytes front rest i [] e n f a = refl
 found bytes front rest i (w ∷ ws) e n f a =
@@ -141,8 +141,8 @@ module _ (bytes : List ℕ) (es : List Entry) (h : Holds form.Job bytes es) wher
   told : bytes ≡ record_of (entry.Head job.places (length job.ways)) ++ (written job.ways ++ written job.after)
   told = h.spelled ∙ ap written job.whole ∙ ap (λ bs. record_of (entry.Head job.places (length job.ways)) ++ bs) (written_append job.ways job.after)
 
-  fitting : All Fits (entry.Head job.places (length job.ways) ∷ (job.ways ++ job.after))
-  fitting = subst (All Fits) job.whole h.fits
+  fitting : AllByRecursion Fits (entry.Head job.places (length job.ways) ∷ (job.ways ++ job.after))
+  fitting = subst (AllByRecursion Fits) job.whole h.fits
 
   pub places_told : (n : ℕ) → n < 2 ^ 16 → two_bytes n ≡ get_or bytes 1 0 ∷ get_or bytes 2 0 ∷ [] → n ≡ places_of es
   places_told n l e =

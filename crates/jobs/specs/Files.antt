@@ -1,6 +1,6 @@
 -- Which files are good, and what the first fault of any other is.
 use Rattle.std.specs.Prelude.{◌≡◌, ℕ, ◌<◌, ◌≤◌, List, [], ◌∷◌, ◌++◌, length, Ok, Err, Result, ◌≢◌}
-use Rattle.std.specs.List.{AllByRecursion as All}
+use Rattle.std.specs.List.{AllByRecursion}
 use Rattle.jobs.specs.declared.entry.Entry.{Entry}
 use Rattle.jobs.specs.declared.entry.Entry.TheVariants.{Head}
 use Rattle.jobs.specs.declared.fault.Fault.{Fault}
@@ -28,12 +28,12 @@ pub record Job (es : List Entry) : Type 0 where
   pub ways : List Entry
   pub after : List Entry
   pub whole : es ≡ Head places (length ways) ∷ (ways ++ after)
-  pub listed : All (In Listing) ways
-  pub called : All (In Calls) after
+  pub listed : AllByRecursion (In Listing) ways
+  pub called : AllByRecursion (In Calls) after
 
 abbrev pub Lawful : Form → List Entry → Type 0
 Lawful form.Job es = Job es
-Lawful form.Grid es = All (In Sizes) es
+Lawful form.Grid es = AllByRecursion (In Sizes) es
 
 abbrev pub longest : ℕ
 longest = 60000
@@ -41,7 +41,7 @@ longest = 60000
 -- the file is good, and holds these records
 pub record Holds (f : Form) (bytes : List ℕ) (es : List Entry) : Type 0 where
   pub short : length bytes ≤ longest
-  pub fits : All Fits es
+  pub fits : AllByRecursion Fits es
   pub spelled : bytes ≡ written es
   pub lawful : Lawful f es
 
@@ -51,7 +51,7 @@ Good f bytes = (es : List Entry) × Holds f bytes es
 -- the file begins with these records, with which some good file begins, and goes on with the rest
 pub record Begun (f : Form) (bytes : List ℕ) (es : List Entry) (rest : List ℕ) : Type 0 where
   pub short : length bytes ≤ longest
-  pub fits : All Fits es
+  pub fits : AllByRecursion Fits es
   pub spelled : bytes ≡ written es ++ rest
   pub lawful : (more : List Entry) × Lawful f (es ++ more)
 

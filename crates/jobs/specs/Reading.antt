@@ -1,6 +1,6 @@
 -- What a reader has handed out so far, and what it hands out next.
 use Rattle.std.specs.Prelude.{◌≡◌, ℕ, ◌+◌, ◌-◌, ◌<◌, Bool, true, false, cond, List, [], ◌∷◌, ◌++◌, length, drop, Some, None, Ok, Err, Option, Result, ◌==◌}
-use Rattle.std.specs.List.{AllByRecursion as All}
+use Rattle.std.specs.List.{AllByRecursion}
 use Rattle.jobs.specs.declared.entry.Entry.{Entry}
 use Rattle.jobs.specs.declared.entry.Entry.TheVariants as entry
 use Rattle.jobs.specs.declared.fault.Fault.{Fault}
@@ -32,7 +32,7 @@ pub record Listing (left : ℕ) (es : List Entry) : Type 0 where
   pub places : ℕ
   pub ways : List Entry
   pub whole : es ≡ entry.Head places (length ways + left) ∷ ways
-  pub listed : All (In section.Listing) ways
+  pub listed : AllByRecursion (In section.Listing) ways
   pub some : 0 < left
 
 -- what is due after these records
@@ -73,7 +73,7 @@ after Sizes e = Sizes
 
 -- the reader has handed out these records of a file of the form
 pub record Read (f : Form) (es : List Entry) (r : Reader) : Type 0 where
-  pub fits : All Fits es
+  pub fits : AllByRecursion Fits es
   pub spelled : r.bytes.now ≡ written es ++ drop r.offset r.bytes.now
   pub place : r.offset ≡ length (written es)
   pub due : Due f r.stage es

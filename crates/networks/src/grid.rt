@@ -6,7 +6,7 @@ ghost use Rattle.networks.specs.Grids.{most_sizes, difference, amount, grid_net}
 use super::ends::Ends;
 use super::network::Network;
 use super::sizes::{Group, Last};
-use costs::{Cost, Cost as _, Whole};
+use costs::{Cost, Whole};
 
 // Every group may go to every last, and every last to one collector. Ways are answered by formula, and none is stored.
 #[derive(Clone, Copy)]

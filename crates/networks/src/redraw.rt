@@ -5,7 +5,7 @@ use super::ends::Ends;
 use super::network::Network;
 use super::refusal::Refusal;
 use super::way_list::WayList;
-use costs::{Cost, Cost as _, Pair, Whole};
+use costs::{Cost, Pair, Whole};
 
 // A layer over any network: a way costs the pair of 1 or 0, listed or not, and its cost below.
 #[derive(Drop)]

@@ -1,6 +1,6 @@
 -- Every call on every plan that a run leads to has an answer.
 use Rattle.std.proofs.Common.{◌≡◌, ℕ, zero, suc, ◌<◌, ◌≤◌, min, ◌⊎◌, List, [], ◌∷◌, length, replicate, pos, ◌-ℤ◌, ◌≤ℤ◌, ◌<ℤ◌, Some, None, Option, sym, refl, ap, subst, inl, inr, ⊎_elim, arith}
-use Rattle.std.specs.List.{AllByRecursion as All}
+use Rattle.std.specs.List.{AllByRecursion}
 use Rattle.std.proofs.lemmas.Int.{ints, by_lt_z}
 use Rattle.std.proofs.lemmas.Bool.{cases_eq}
 use Rattle.costs.specs.Group.{Group}
@@ -46,15 +46,15 @@ module _ {g : Group} (net : FNet g) (f : List ℕ) where
   room_top top [] = omega arith
   room_top top (s ∷ ss) = let a = room_top top ss in omega arith
 
-  room_some : (top : ℕ) (ss : List Step) → 1 ≤ top → All (Carries net f 1) ss → 1 ≤ least_room top ss
+  room_some : (top : ℕ) (ss : List Step) → 1 ≤ top → AllByRecursion (Carries net f 1) ss → 1 ≤ least_room top ss
   room_some top [] h all = h
   room_some top (s ∷ ss) h all = let a = room_some top ss h all.1 in let b = all.0.enough in omega arith
 
-  room_carries : (top x : ℕ) (ss : List Step) → x ≤ least_room top ss → All (Carries net f 1) ss → All (Carries net f x) ss
+  room_carries : (top x : ℕ) (ss : List Step) → x ≤ least_room top ss → AllByRecursion (Carries net f 1) ss → AllByRecursion (Carries net f x) ss
   room_carries top x [] h all = tt
   room_carries top x (s ∷ ss) h all = (record { real = all.0.real; enough = omega arith }, room_carries top x ss (omega arith) all.1)
 
-  room_most : (top y : ℕ) (ss : List Step) → y ≤ top → All (Carries net f y) ss → y ≤ least_room top ss
+  room_most : (top y : ℕ) (ss : List Step) → y ≤ top → AllByRecursion (Carries net f y) ss → y ≤ least_room top ss
   room_most top y [] h all = h
   room_most top y (s ∷ ss) h all = let a = room_most top y ss h all.1 in let b = all.0.enough in omega arith
 

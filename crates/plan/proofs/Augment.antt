@@ -1,6 +1,6 @@
 -- A potential for which a cheapest route is tight; and what a place that is cut off says.
 use Rattle.std.proofs.Common.{◌≡◌, ℕ, zero, suc, ◌<◌, Bool, true, false, ◌⊎◌, List, [], ◌∷◌, sym, refl, subst, inl, inr, ⊎_elim, arith}
-use Rattle.std.specs.List.{AllByRecursion as All}
+use Rattle.std.specs.List.{AllByRecursion}
 use Rattle.std.proofs.lemmas.Bool.{cases_eq, false≢true}
 use Rattle.costs.specs.Group.{Group}
 use Rattle.plan.proofs.Flow.{Net, Joined, Carries, Potential, Closed, Step, from, to, price, price_of, Row, Route, Tight}
@@ -65,7 +65,7 @@ module _ {g : Group} (net : Net g) (f : List ℕ) (u : ℕ) where
     least_rise t ss row least (inr a) (inr b) = subst (g.le _) (g.unit _) (both g _ _ _ _ (a.2 [] here) (least b.0 b.1))
 
     pub augment : (t : ℕ) (ss : List Step) → Row net f u ss t → ((rs : List Step) → Route net f 1 u rs t → g.le (price_of net ss) (price_of net rs)) →
-        (π' : ℕ → g.Carrier) × Potential net f π' × All (Tight net π') ss
+        (π' : ℕ → g.Carrier) × Potential net f π' × AllByRecursion (Tight net π') ss
     augment t ss row least =
         let π' : ℕ → g.Carrier = λ v. raised v (reached v) in
         let valid' : Potential net f π' = λ s c. holds s c (reached (from net s)) (reached (to net s)) (far.1 (to net s) (to_inside net joined f s c)) in

@@ -1,6 +1,6 @@
 -- A route with room for x bears x: no way stands on it twice, so each step still has its room in its turn.
 use Rattle.std.proofs.Common.{ℕ, ◌<◌, ◌≤◌, ◌≢◌, List, [], ◌∷◌, arith}
-use Rattle.std.specs.List.{AllByRecursion as All}
+use Rattle.std.specs.List.{AllByRecursion}
 use Rattle.costs.specs.Group.{Group}
 use Rattle.costs.specs.Kind.{Kind}
 use Rattle.networks.specs.Net.{Net}
@@ -22,11 +22,11 @@ module _ {g : Group} (net : flow.Net g) (low : (k : ℕ) → k < count net → (
       (omega (arith, c.real, keeps.whole), omega (arith, c.enough), rest)
   first (Back k) ss f keeps c rest = (omega (arith, c.real, keeps.whole), c.enough, rest)
 
-  bears : (u v : ℕ) (ss : List Step) (f : List ℕ) → flow.Keeps net f → Leads net u ss v → Apart (stops net u ss) → All (Carries net f x) ss → Bears x ss f
+  bears : (u v : ℕ) (ss : List Step) (f : List ℕ) → flow.Keeps net f → Leads net u ss v → Apart (stops net u ss) → AllByRecursion (Carries net f x) ss → Bears x ss f
   bears u v [] f keeps leads apart carries = tt
   bears u v (s ∷ ss) f keeps leads apart carries =
-      let ends : All (λ d. (u ≢ from net d) × (u ≢ to net d)) ss = both_ends net (λ p. u ≢ p) (to net s) v ss leads.1 apart.0.0 apart.0.1 in
-      let left : All (Carries net (send_step_lem x s f) x) ss =
+      let ends : AllByRecursion (λ d. (u ≢ from net d) × (u ≢ to net d)) ss = both_ends net (λ p. u ≢ p) (to net s) v ss leads.1 apart.0.0 apart.0.1 in
+      let left : AllByRecursion (Carries net (send_step_lem x s f) x) ss =
       all_with _ (λ d e c. still_carries net f x x s d (one_way net s d (rw leads.0 e.0) (rw leads.0 e.1)) c) ss ends carries.1 in
       first s ss f keeps carries.0 (bears (to net s) v ss (send_step_lem x s f) (step_keeps net f x s keeps carries.0) leads.1 apart.1 left)
 

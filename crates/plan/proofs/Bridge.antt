@@ -1,7 +1,7 @@
 -- What the definitions say of a network, in the words of Flow, and back.
 use Rattle.std.proofs.Common.{◌≡◌, ℕ, zero, suc, ◌+◌, ◌-◌, ◌<◌, ◌≤◌, cond, eqb, ◌≢◌, List, [], ◌∷◌, map, length, get_or, set, pos, ◌-ℤ◌, Some, sym, refl, ap, ◌∙◌, subst, ap₂, subst₂, arith}
 use lib.ListN.{length-map}
-use Rattle.std.specs.List.{slice_get, AllByRecursion as All}
+use Rattle.std.specs.List.{slice_get, AllByRecursion}
 use Rattle.costs.specs.Kind.{Kind}
 use Rattle.networks.specs.Net.{Way, Net}
 use Rattle.plan.specs.Loads.{costs, out, into, leaving, Keeps}
@@ -131,8 +131,8 @@ module _ {C R : Type 0} (K : Kind C R) (net : Net C) where
 
     pub record Led (x u : ℕ) (ss : List Step) (vs : List ℕ) (v : ℕ) (c : K.group.Carrier) : Type 0 where
       pub leads : flow.Leads seen u ss v
-      pub carries : All (Carries seen f x) ss
-      pub opens : All (Carries seen f 1) ss
+      pub carries : AllByRecursion (Carries seen f x) ss
+      pub opens : AllByRecursion (Carries seen f 1) ss
       pub met : vs ≡ map (to seen) ss
       pub costs : c ≡ price_of seen ss
 
@@ -149,7 +149,7 @@ module _ {C R : Type 0} (K : Kind C R) (net : Net C) where
           costs = ap₂ K.group.plus (sym i.costs) t.costs;
         }
 
-    pub leads : (x u : ℕ) (ss : List Step) (v : ℕ) → 1 ≤ x → flow.Leads seen u ss v → All (Carries seen f x) ss → Leads K net f x u ss (map (to seen) ss) v (price_of seen ss)
+    pub leads : (x u : ℕ) (ss : List Step) (v : ℕ) → 1 ≤ x → flow.Leads seen u ss v → AllByRecursion (Carries seen f x) ss → Leads K net f x u ss (map (to seen) ss) v (price_of seen ss)
     leads x u [] v h l c = subst (λ p. Leads K net f x u [] [] p K.group.zero) l (there u)
     leads x u (s ∷ ss) v h l c =
         let e = c.0.enough in

@@ -1,7 +1,7 @@
 -- Whether some ring costs less than zero is decided.
 use Rattle.std.proofs.Common.{◌≡◌, ℕ, zero, suc, ◌<◌, ◌≤◌, ◌≢◌, ◌⊎◌, List, [], ◌∷◌, map, length, sym, refl, subst, inl, inr, ⊎_elim, arith}
 use lib.ListN.{length-map}
-use Rattle.std.specs.List.{AllByRecursion as All}
+use Rattle.std.specs.List.{AllByRecursion}
 use Rattle.std.proofs.ByRecursion.{All-map, All-weaker}
 use Rattle.std.proofs.lemmas.Bool.{cases_eq}
 use Rattle.costs.specs.Group.{Group}
@@ -36,7 +36,7 @@ lowest_below (suc n) P Q h =
 
 module _ {g : Group} (net : Net g) (f : List ℕ) where
   -- the place where steps end is met
-  ended : (a v : ℕ) (ss : List Step) → Leads net a ss v → All (λ y. v ≢ y) (stops net a ss) → ⊥
+  ended : (a v : ℕ) (ss : List Step) → Leads net a ss v → AllByRecursion (λ y. v ≢ y) (stops net a ss) → ⊥
   ended a v [] leads h = h.0 (sym leads)
   ended a v (s ∷ ss) leads h = ended (to net s) v ss leads.1 h.1
 
@@ -70,7 +70,7 @@ module _ {g : Group} (net : Net g) (f : List ℕ) where
     short_ring : (c : CheapRing net f) → length (c.first ∷ c.rest) ≤ net.places
     short_ring c =
         let ss = c.first ∷ c.rest in
-        let all : All (λ x. x < net.places) (map (to net) ss) = All-map _ (to net) ss (All-weaker _ _ (to_inside net joined f) ss c.row.opens) in
+        let all : AllByRecursion (λ x. x < net.places) (map (to net) ss) = All-map _ (to net) ss (All-weaker _ _ (to_inside net joined f) ss c.row.opens) in
         let most = apart_few net.places (map (to net) ss) c.apart all in
         let same = length-map ss (to net) in
         omega arith

@@ -1,6 +1,6 @@
 -- What is shown way by way of a listed network: potentials, what they bound, and sets of places that no step leaves.
 use Rattle.std.proofs.Common.{◌≡◌, ℕ, zero, suc, ◌<◌, List, [], ◌∷◌, get_or, Some, sym, refl, ◌∙◌, subst}
-use Rattle.std.specs.List.{slice_get, AllByRecursion as All}
+use Rattle.std.specs.List.{slice_get, AllByRecursion}
 use Rattle.costs.specs.Kind.{Kind}
 use Rattle.networks.specs.Net.{Net, Way}
 use Rattle.plan.specs.declared.step.Step.{Step}
@@ -20,7 +20,7 @@ each P (x ∷ ws) h zero w e = let same : x ≡ w = cc in subst (P 0) same h.0
 each P (x ∷ ws) h (suc k) w e = each (λ j. P (suc j)) ws h.1 k w e
 
 -- a bound on each entry of a list, and on what stands for those past its end
-pub at_each : {A : Type 0} (P : A → Type 0) (xs : List A) (d : A) → All P xs → P d → (v : ℕ) → P (get_or xs v d)
+pub at_each : {A : Type 0} (P : A → Type 0) (xs : List A) (d : A) → AllByRecursion P xs → P d → (v : ℕ) → P (get_or xs v d)
 at_each P [] d h p v = p
 at_each P (x ∷ xs) d h p zero = h.0
 at_each P (x ∷ xs) d h p (suc v) = at_each P xs d h.1 p v

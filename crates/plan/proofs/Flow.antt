@@ -1,6 +1,6 @@
 -- The network as the proofs see it: ways by number, costs in the group.
 use Rattle.std.proofs.Common.{◌≡◌, ℕ, zero, suc, ◌+◌, ◌-◌, ◌<◌, ◌≤◌, Bool, true, cond, eqb, ◌≢◌, List, [], ◌∷◌, map, length, get_or, set, ℤ, pos, ◌+ℤ◌, ◌-ℤ◌, ◌∙◌}
-use Rattle.std.specs.List.{AllByRecursion as All}
+use Rattle.std.specs.List.{AllByRecursion}
 use Rattle.costs.specs.Group.{Group}
 pub use Rattle.costs.specs.Group.{times}
 pub use Rattle.plan.specs.declared.step.Step.{Step}
@@ -106,7 +106,7 @@ stops net u ss = u ∷ map (to net) ss
 pub record Route {g : Group} (net : Net g) (load : List ℕ) (x u : ℕ) (ss : List Step) (v : ℕ) : Type 0 where
   pub leads : Leads net u ss v
   pub apart : Apart (stops net u ss)
-  pub carries : All (Carries net load x) ss
+  pub carries : AllByRecursion (Carries net load x) ss
 
 abbrev pub price_of : {g : Group} → Net g → List Step → g.Carrier
 price_of {g} net [] = g.zero
@@ -128,7 +128,7 @@ Tight {g} net π s = π (to net s) ≡ g.plus (π (from net s)) (price net s)
 -- a row of open steps from u to v, which may meet a place again; where v is u it is a ring
 pub record Row {g : Group} (net : Net g) (load : List ℕ) (u : ℕ) (ss : List Step) (v : ℕ) : Type 0 where
   pub leads : Leads net u ss v
-  pub opens : All (Carries net load 1) ss
+  pub opens : AllByRecursion (Carries net load 1) ss
 
 -- a ring of open steps that meets no place twice, and costs less than zero
 pub record CheapRing {g : Group} (net : Net g) (load : List ℕ) : Type 0 where

@@ -1,7 +1,7 @@
 -- Marks spread along steps and walks, and tell the reach of a place in the end.
 use Rattle.std.proofs.Common.{◌≡◌, ℕ, zero, suc, ◌+◌, ◌-◌, ◌<◌, ◌≤◌, Bool, true, false, ◌||◌, ◌≢◌, ◌⊎◌, List, [], ◌∷◌, ◌++◌, length, get_or, take, drop, set, replicate, Some, None, Option, sym, refl, ap, ◌∙◌, subst, inl, inr, ⊎_elim, arith}
 use borrow.Rule.Slice.PartMut.{post_of}
-use Rattle.std.specs.List.{slice_get, AllByRecursion as All}
+use Rattle.std.specs.List.{slice_get, AllByRecursion}
 use Rattle.std.proofs.lemmas.List.{length-replicate}
 use Rattle.std.proofs.lemmas.Bool.{cases_eq, or_parts, false≢true}
 use Rattle.costs.specs.Kind.{Kind}
@@ -67,7 +67,7 @@ module _ {C R : Type 0} (K : Kind C R) (net : Net C) (loads : List ℕ) where
       (then u v₀ w s (ss ++ rs) (vs ++ ws) c (K.group.plus e d) r g l (leads_join p q))
 
   -- a route that meets u, from there; or it does not meet u
-  rest_of : (u : ℕ) {a v : ℕ} {ss : List Step} {vs : List ℕ} {c : K.group.Carrier} → Leads K net loads 1 a ss vs v c → Apart (a ∷ vs) → All (λ y. u ≢ y) (a ∷ vs) ⊎ Reach K net loads u v
+  rest_of : (u : ℕ) {a v : ℕ} {ss : List Step} {vs : List ℕ} {c : K.group.Carrier} → Leads K net loads 1 a ss vs v c → Apart (a ∷ vs) → AllByRecursion (λ y. u ≢ y) (a ∷ vs) ⊎ Reach K net loads u v
   rest_of u (there a) apart =
       ⊎_elim (λ (e : u ≡ a). inr (subst (λ z. Reach K net loads z a) (sym e) ([], K.group.zero, record { met = []; leads = there a; apart = apart })))
       (λ (ne : u ≡ a → ⊥). inl (ne, tt))

@@ -1,6 +1,6 @@
 -- Where there is a potential, no ring of open steps costs less than zero.
 use Rattle.std.proofs.Common.{ℕ, List, [], ◌∷◌, sym, ap, ◌∙◌, subst, subst₂}
-use Rattle.std.specs.List.{AllByRecursion as All}
+use Rattle.std.specs.List.{AllByRecursion}
 use Rattle.costs.specs.Group.{Group}
 use Rattle.plan.proofs.Flow.{unit_of, Net, Carries, Potential, Step, to, price, Leads, Tight, price_of, NoCheap}
 use Rattle.plan.proofs.Sums.{unit_left}
@@ -8,7 +8,7 @@ use Rattle.plan.proofs.Costs.{adds, cancel}
 
 -- over a row of open steps a potential rises by no more than they cost
 pub rises : (g : Group) (net : Net g) (f : List ℕ) (π : ℕ → g.Carrier) (u v : ℕ) (ss : List Step) →
-    Potential net f π → Leads net u ss v → All (Carries net f 1) ss → g.le (π v) (g.plus (π u) (price_of net ss))
+    Potential net f π → Leads net u ss v → AllByRecursion (Carries net f 1) ss → g.le (π v) (g.plus (π u) (price_of net ss))
 rises g net f π u v [] valid leads clear = subst (g.le (π v)) (ap π (sym leads) ∙ sym (unit_of g (π u))) (g.refl_le (π v))
 rises g net f π u v (s ∷ ss) valid leads clear =
     let first : g.le (π (to net s)) (g.plus (π u) (price net s)) = rw leads.0 at (valid s clear.0) in
@@ -24,7 +24,7 @@ no_cheap_ring g net f π valid ring =
 
 -- a row over which a potential rises by all that it costs is tight at each step
 pub tight_steps : (g : Group) (net : Net g) (f : List ℕ) (π : ℕ → g.Carrier) (u v : ℕ) (ss : List Step) →
-    Potential net f π → Leads net u ss v → All (Carries net f 1) ss → g.le (g.plus (π u) (price_of net ss)) (π v) → All (Tight net π) ss
+    Potential net f π → Leads net u ss v → AllByRecursion (Carries net f 1) ss → g.le (g.plus (π u) (price_of net ss)) (π v) → AllByRecursion (Tight net π) ss
 tight_steps g net f π u v [] valid leads clear h = tt
 tight_steps g net f π u v (s ∷ ss) valid leads clear h =
     let first : g.le (π (to net s)) (g.plus (π u) (price net s)) = rw leads.0 at (valid s clear.0) in

@@ -1,6 +1,6 @@
 -- Places whose rank rises along a list are apart.
 use Rattle.std.proofs.Common.{ℕ, ◌<◌, ◌≢◌, List, [], ◌∷◌, ap, arith}
-use Rattle.std.specs.List.{AllByRecursion as All}
+use Rattle.std.specs.List.{AllByRecursion}
 use Rattle.std.proofs.ByRecursion.{All-weaker}
 use Rattle.plan.specs.Steps.{Apart}
 
@@ -11,7 +11,7 @@ module _ (rank : ℕ → ℕ) where
   Rising u (v ∷ vs) = (rank u < rank v) × Rising v vs
 
   -- all places that follow u have a higher rank
-  higher : (a u : ℕ) (vs : List ℕ) → rank a < rank u → Rising u vs → All (λ v. rank a < rank v) vs
+  higher : (a u : ℕ) (vs : List ℕ) → rank a < rank u → Rising u vs → AllByRecursion (λ v. rank a < rank v) vs
   higher a u [] l h = tt
   higher a u (v ∷ vs) l h = let next = h.0 in let up : rank a < rank v = omega arith in (up, higher a v vs up h.1)
 

@@ -1,6 +1,6 @@
 -- Rounds of scans that begin at zeros give the least costs of walks from there.
 use Rattle.std.proofs.Common.{◌≡◌, ℕ, ◌<◌, Bool, List, length, Some, sym, ap, ◌∙◌, subst, inl, inr, ⊎_elim, arith}
-use Rattle.std.specs.List.{AllByRecursion as All}
+use Rattle.std.specs.List.{AllByRecursion}
 use Rattle.costs.specs.Group.{Group}
 use Rattle.costs.specs.Kind.{Kind}
 use Rattle.networks.specs.Net.{Net}
@@ -34,7 +34,7 @@ module _ {C R : Type 0} (K : Kind C R) (net : Net C) (loads : List ℕ) (starts 
         begins = o.0;
         leads = subst (λ c. Leads K net loads 1 w.place w.steps w.walk.met v c) cost w.walk.leads;
         inside = subst (λ k. w.place < k) (sym r.kept.rows) w.start;
-        within = subst (λ k. All (λ x. x < k) w.walk.met) (sym r.kept.rows) w.within;
+        within = subst (λ k. AllByRecursion (λ x. x < k) w.walk.met) (sym r.kept.rows) w.within;
       }
 
   pub searched : Searched K net loads starts n t' still

@@ -1,13 +1,13 @@
 -- Sending more along a route: limits, what leaves each place, and a potential that is tight along it.
 use Rattle.std.proofs.Common.{◌≡◌, ℕ, zero, suc, ◌+◌, ◌-◌, ◌<◌, ◌≤◌, Bool, true, false, cond, eqb, ◌≢◌, List, [], ◌∷◌, map, length, get_or, set, ℤ, pos, ◌+ℤ◌, ◌-ℤ◌, sym, refl, ap, ◌∙◌, subst, ap₂, ⊎_elim, arith, length-set, get_or-set_other, get_or-set_same}
-use Rattle.std.specs.List.{AllByRecursion as All}
+use Rattle.std.specs.List.{AllByRecursion}
 use Rattle.std.proofs.lemmas.Int.{ints}
 use Rattle.std.proofs.lemmas.Bool.{cases_eq}
 use Rattle.costs.specs.Group.{Group}
 use Rattle.plan.proofs.Flow.{total, unit_of, Net, Keeps, Carries, Potential, Step, Ahead, Back, which, from, to, price, room, way, count, leaving, out, into, Leads, Apart, stops, send, send_step_lem, Tight}
 use Rattle.plan.proofs.Costs.{undo}
 
-pub all_with : {X : Type 0} {P Q : X → Type 0} (R : X → Type 0) → ((x : X) → P x → Q x → R x) → (xs : List X) → All P xs → All Q xs → All R xs
+pub all_with : {X : Type 0} {P Q : X → Type 0} (R : X → Type 0) → ((x : X) → P x → Q x → R x) → (xs : List X) → AllByRecursion P xs → AllByRecursion Q xs → AllByRecursion R xs
 all_with R h [] p q = tt
 all_with R h (x ∷ xs) p q = (h x p.0 q.0, all_with R h xs p.1 q.1)
 
@@ -106,7 +106,7 @@ module _ {g : Group} (net : Net g) where
   one_way (Back k) (Back j) p q e = p (ap (λ i. (way net i).head) (sym e))
 
   -- what holds of each stop holds of both ends of each step
-  pub both_ends : (P : ℕ → Type 0) (u v : ℕ) (ss : List Step) → Leads net u ss v → P u → All P (map (to net) ss) → All (λ d. P (from net d) × P (to net d)) ss
+  pub both_ends : (P : ℕ → Type 0) (u v : ℕ) (ss : List Step) → Leads net u ss v → P u → AllByRecursion P (map (to net) ss) → AllByRecursion (λ d. P (from net d) × P (to net d)) ss
   both_ends P u v [] leads p all = tt
   both_ends P u v (s ∷ ss) leads p all = ((subst P (sym leads.0) p, all.0), both_ends P (to net s) v ss leads.1 all.0 all.1)
 
@@ -114,12 +114,12 @@ module _ {g : Group} (net : Net g) where
   still_carries f x y s d ne c = record { real = c.real; enough = rw (other_room f x s d ne) c.enough }
 
   -- x more, sent along a route from u to v, leaves u, arrives at v, and passes all other places
-  pub along : (x u v : ℕ) (ss : List Step) (f : List ℕ) → Keeps net f → Leads net u ss v → Apart (stops net u ss) → All (Carries net f x) ss →
+  pub along : (x u v : ℕ) (ss : List Step) (f : List ℕ) → Keeps net f → Leads net u ss v → Apart (stops net u ss) → AllByRecursion (Carries net f x) ss →
       Keeps net (send x ss f) × ((w : ℕ) → leaving net (send x ss f) w +ℤ spot x v w ≡ leaving net f w +ℤ spot x u w)
   along x u v [] f keeps leads apart carries = (keeps, λ w. ap (λ p. leaving net f w +ℤ spot x p w) (sym leads))
   along x u v (s ∷ ss) f keeps leads apart carries =
-      let ends : All (λ d. (u ≢ from net d) × (u ≢ to net d)) ss = both_ends (λ p. u ≢ p) (to net s) v ss leads.1 apart.0.0 apart.0.1 in
-      let left : All (Carries net (send_step_lem x s f) x) ss =
+      let ends : AllByRecursion (λ d. (u ≢ from net d) × (u ≢ to net d)) ss = both_ends (λ p. u ≢ p) (to net s) v ss leads.1 apart.0.0 apart.0.1 in
+      let left : AllByRecursion (Carries net (send_step_lem x s f) x) ss =
       all_with _ (λ d e c. still_carries f x x s d (one_way s d (rw leads.0 e.0) (rw leads.0 e.1)) c) ss ends carries.1 in
       let rest = along x (to net s) v ss (send_step_lem x s f) (step_keeps f x s keeps carries.0) leads.1 apart.1 left in
       (rest.0, λ w. rest.1 w ∙ step_leaving f x s w keeps carries.0 ∙ ap (λ p. leaving net f w +ℤ spot x p w) leads.0)
@@ -132,7 +132,7 @@ module _ {g : Group} (net : Net g) where
   tight_both π (Back k) (Back j) e t = rw e (subst (g.le _) t (g.refl_le _))
 
 -- a potential stays one when more is sent along steps that are tight for it
-pub stays : (g : Group) (net : Net g) (f : List ℕ) (π : ℕ → g.Carrier) (x : ℕ) (ss : List Step) → Potential net f π → All (Tight net π) ss → Potential net (send x ss f) π
+pub stays : (g : Group) (net : Net g) (f : List ℕ) (π : ℕ → g.Carrier) (x : ℕ) (ss : List Step) → Potential net f π → AllByRecursion (Tight net π) ss → Potential net (send x ss f) π
 stays g net f π x [] valid tight = valid
 stays g net f π x (s ∷ ss) valid tight =
     stays g net (send_step_lem x s f) π x ss

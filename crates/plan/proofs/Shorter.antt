@@ -1,7 +1,7 @@
 -- A row of open steps, made into a route by leaving out its rings.
 use Rattle.std.proofs.Common.{◌≡◌, ℕ, zero, suc, ◌+◌, ◌<◌, ◌≤◌, Bool, cond, eqb, ◌≢◌, ◌⊎◌, List, [], ◌∷◌, ◌++◌, map, length, sym, refl, ap, ◌∙◌, subst, ap₂, subst₂, inl, inr, ⊎_elim, arith}
 use lib.ListN.{length-map}
-use Rattle.std.specs.List.{AllByRecursion as All}
+use Rattle.std.specs.List.{AllByRecursion}
 use Rattle.std.proofs.ByRecursion.{All-map, All-weaker}
 use Rattle.std.proofs.lemmas.Bool.{cases_eq, eq-eqb, ne_eqb}
 use Rattle.costs.specs.Group.{Group}
@@ -9,11 +9,11 @@ use Rattle.plan.proofs.Flow.{total, Net, Joined, Carries, Step, Ahead, Back, fro
 use Rattle.plan.proofs.Sums.{unit_left, total_add, total_none, total_pick}
 use Rattle.plan.proofs.Costs.{adds, nats, both, at_least_or}
 
-all_front : {X : Type 0} (P : X → Type 0) (xs ys : List X) → All P (xs ++ ys) → All P xs
+all_front : {X : Type 0} (P : X → Type 0) (xs ys : List X) → AllByRecursion P (xs ++ ys) → AllByRecursion P xs
 all_front P [] ys h = tt
 all_front P (x ∷ xs) ys h = (h.0, all_front P xs ys h.1)
 
-all_rest : {X : Type 0} (P : X → Type 0) (xs ys : List X) → All P (xs ++ ys) → All P ys
+all_rest : {X : Type 0} (P : X → Type 0) (xs ys : List X) → AllByRecursion P (xs ++ ys) → AllByRecursion P ys
 all_rest P [] ys h = h
 all_rest P (x ∷ xs) ys h = all_rest P xs ys h.1
 
@@ -25,7 +25,7 @@ abbrev times_in : ℕ → List ℕ → ℕ
 times_in v [] = 0
 times_in v (x ∷ xs) = bit (eqb x v) + times_in v xs
 
-absent : (v : ℕ) (xs : List ℕ) → All (λ y. v ≢ y) xs → times_in v xs ≡ 0
+absent : (v : ℕ) (xs : List ℕ) → AllByRecursion (λ y. v ≢ y) xs → times_in v xs ≡ 0
 absent v [] h = refl
 absent v (x ∷ xs) h = ap₂ ◌+◌ (ap bit (ne_eqb x v (λ e. h.0 (sym e)))) (absent v xs h.1)
 
@@ -41,7 +41,7 @@ once v (x ∷ xs) h =
     omega arith)
     (cases_eq x v)
 
-counted : (n : ℕ) (xs : List ℕ) → All (λ x. x < n) xs → total 0 ◌+◌ n (λ v. times_in v xs) ≡ length xs
+counted : (n : ℕ) (xs : List ℕ) → AllByRecursion (λ x. x < n) xs → total 0 ◌+◌ n (λ v. times_in v xs) ≡ length xs
 counted n [] h = total_none nats n (λ v. 0) (λ k l. refl)
 counted n (x ∷ xs) h =
     let one : total 0 ◌+◌ n (λ v. bit (eqb x v)) ≡ 1 =
@@ -54,7 +54,7 @@ few zero t h = omega arith
 few (suc n) t h = let a = few n t h in let b = h n in omega arith
 
 -- numbers below n that are apart are at most n
-pub apart_few : (n : ℕ) (xs : List ℕ) → Apart xs → All (λ x. x < n) xs → length xs ≤ n
+pub apart_few : (n : ℕ) (xs : List ℕ) → Apart xs → AllByRecursion (λ x. x < n) xs → length xs ≤ n
 apart_few n xs apart below = rw (counted n xs below) at (few n (λ v. times_in v xs) (λ v. once v xs apart))
 
 module _ {g : Group} (net : Net g) where
@@ -75,7 +75,7 @@ module _ {g : Group} (net : Net g) where
     goes : Leads net u rest v
     apart : Apart (stops net u rest)
 
-  part : (u a v : ℕ) (ss : List Step) → Leads net a ss v → Apart (stops net a ss) → All (λ y. u ≢ y) (stops net a ss) ⊎ Parted u a v ss
+  part : (u a v : ℕ) (ss : List Step) → Leads net a ss v → Apart (stops net a ss) → AllByRecursion (λ y. u ≢ y) (stops net a ss) ⊎ Parted u a v ss
   part u a v [] leads apart =
       ⊎_elim
       (λ e. inr (record { front = []; rest = []; is = refl; comes = sym e; goes = e ∙ leads; apart = (tt, tt) }))
@@ -94,11 +94,11 @@ module _ {g : Group} (net : Net g) where
   pub record Simple (f : List ℕ) (u : ℕ) (ss : List Step) (v : ℕ) : Type 0 where
     pub steps : List Step
     pub leads : Leads net u steps v
-    pub opens : All (Carries net f 1) steps
+    pub opens : AllByRecursion (Carries net f 1) steps
     pub apart : Apart (stops net u steps)
     pub cheaper : g.le (price_of net steps) (price_of net ss)
 
-  all_heads : (P : ℕ → Type 0) (p q : List Step) → All P (map (to net) (p ++ q)) → All P (map (to net) p)
+  all_heads : (P : ℕ → Type 0) (p q : List Step) → AllByRecursion P (map (to net) (p ++ q)) → AllByRecursion P (map (to net) p)
   all_heads P [] q h = tt
   all_heads P (s ∷ p) q h = (h.0, all_heads P p q h.1)
 
@@ -107,7 +107,7 @@ module _ {g : Group} (net : Net g) where
   apart_heads (s ∷ p) q h = (all_heads (λ y. to net s ≢ y) p q h.0, apart_heads p q h.1)
 
   -- a row is made into a route that costs no more, or has a ring that costs less than zero
-  pub simple_or : (f : List ℕ) (u v : ℕ) (ss : List Step) → Leads net u ss v → All (Carries net f 1) ss → CheapRing net f ⊎ Simple f u ss v
+  pub simple_or : (f : List ℕ) (u v : ℕ) (ss : List Step) → Leads net u ss v → AllByRecursion (Carries net f 1) ss → CheapRing net f ⊎ Simple f u ss v
   simple_or f u v [] leads opens = inr (record { steps = []; leads = leads; opens = tt; apart = (tt, tt); cheaper = g.refl_le _ })
   simple_or f u v (s ∷ ss) leads opens = ⊎_elim inl from_rest (simple_or f (to net s) v ss leads.1 opens.1)
     where
@@ -130,8 +130,8 @@ module _ {g : Group} (net : Net g) where
             other = b.1;
           })) (at_least_or g g.zero (price_of net (s ∷ p.front)))
             where
-              opened : All (Carries net f 1) (p.front ++ p.rest)
-              opened = subst (All (Carries net f 1)) p.is r.opens
+              opened : AllByRecursion (Carries net f 1) (p.front ++ p.rest)
+              opened = subst (AllByRecursion (Carries net f 1)) p.is r.opens
 
               without : g.le g.zero (price_of net (s ∷ p.front)) → Simple f u (s ∷ ss) v
               without ring =
@@ -139,7 +139,7 @@ module _ {g : Group} (net : Net g) where
                   subst₂ g.le (unit_left (adds g) _) (g.assoc _ _ _ ∙ ap (g.plus (price net s)) (sym (price_append p.front p.rest) ∙ ap (price_of net) (sym p.is))) (g.shift _ _ (price_of net p.rest) ring) in
                   record { steps = p.rest; leads = p.goes; opens = all_rest _ p.front p.rest opened; apart = p.apart; cheaper = g.trans _ _ _ less kept }
 
-  pub simple : (f : List ℕ) → NoCheap net f → (u v : ℕ) (ss : List Step) → Leads net u ss v → All (Carries net f 1) ss → Simple f u ss v
+  pub simple : (f : List ℕ) → NoCheap net f → (u v : ℕ) (ss : List Step) → Leads net u ss v → AllByRecursion (Carries net f 1) ss → Simple f u ss v
   simple f sound u v ss leads opens = ⊎_elim (λ c. absurd (sound c)) (λ r. r) (simple_or f u v ss leads opens)
 
   -- an open step joins two places
@@ -152,9 +152,9 @@ module _ {g : Group} (net : Net g) where
   to_inside joined f (Back k) c = joined.tails k c.real
 
   -- a route has fewer steps than there are places
-  pub simple_short : Joined net → (f : List ℕ) (u : ℕ) (ss : List Step) → u < net.places → All (Carries net f 1) ss → Apart (stops net u ss) → length ss < net.places
+  pub simple_short : Joined net → (f : List ℕ) (u : ℕ) (ss : List Step) → u < net.places → AllByRecursion (Carries net f 1) ss → Apart (stops net u ss) → length ss < net.places
   simple_short joined f u ss b opens apart =
-      let all : All (λ x. x < net.places) (stops net u ss) = (b, All-map _ (to net) ss (All-weaker _ _ (to_inside joined f) ss opens)) in
+      let all : AllByRecursion (λ x. x < net.places) (stops net u ss) = (b, All-map _ (to net) ss (All-weaker _ _ (to_inside joined f) ss opens)) in
       let most = apart_few net.places (stops net u ss) apart all in
       let same = length-map ss (to net) in
       omega arith

@@ -1,6 +1,6 @@
 -- The law over runs holds.
 use Rattle.std.proofs.Common.{◌≡◌, ℕ, zero, suc, ◌+◌, ◌≤◌, true, false, ◌≢◌, ◌⊎◌, List, ◌∷◌, ℤ, pos, ◌+ℤ◌, ◌-ℤ◌, None, sym, refl, ap, ◌∙◌, ap₂, subst₂, inl, inr, ⊎_elim, arith}
-use Rattle.std.specs.List.{ContainsAt as Has}
+use Rattle.std.specs.List.{ContainsAt}
 use Rattle.std.proofs.lemmas.Int.{ints}
 use Rattle.std.proofs.lemmas.Bool.{both_ways}
 use Rattle.costs.specs.Kind.{Kind}
@@ -26,7 +26,7 @@ use Rattle.plan.proofs.Faults.{open_passed, open_shut, open_none, Bookable, book
 use Rattle.plan.proofs.Standing.{joined, keeps, valid, level, repeats_stands, repeats_owed, Good, sends_good, repeats_good, stuck_short}
 use Rattle.plan.proofs.Kept.{none_yet, zero_leaving, none_rest, fresh, fresh_stands, booked, rests_booked, booked_stands}
 
-has_cons : {X : Type 0} (y : X) (xs : List X) (x : X) → Has (y ∷ xs) x → (y ≡ x) ⊎ Has xs x
+has_cons : {X : Type 0} (y : X) (xs : List X) (x : X) → ContainsAt (y ∷ xs) x → (y ≡ x) ⊎ ContainsAt xs x
 has_cons y xs x (zero, l, at) = inl (at y)
 has_cons y xs x (suc k, l, at) = inr (k, omega arith, at)
 
@@ -34,7 +34,7 @@ module _ {C R : Type 0} (K : Kind C R) (net : Net C) where
   -- a plan that was never opened
   record Shut (h : List Event) (s : State) : Type 0 where
     shut : s.open? ≡ false
-    unopened : (work : ℕ) → Has h (record { call = Open; work = work; answer = Opened }) → ⊥
+    unopened : (work : ℕ) → ContainsAt h (record { call = Open; work = work; answer = Opened }) → ⊥
     nothing : (v : ℕ) → bookings h v ≡ pos 0
 
   same_good : {h : List Event} {s : State} (e : Event) → ((v : ℕ) → booked_by e.call e.answer v ≡ pos 0) → Good K net h s → Good K net (e ∷ h) s

@@ -1,7 +1,7 @@
 -- Following the noted steps back from a place comes to where the search began, along a cheapest route.
 use Rattle.std.proofs.Common.{◌≡◌, ℕ, zero, suc, ◌+◌, ◌<◌, ◌≤◌, min, Bool, true, ◌≢◌, List, [], ◌∷◌, reverse, length, take, set, Some, None, sym, refl, ap, ◌∙◌, subst, ⊎_elim, arith, length-take}
 use lib.ListN.{length-reverse}
-use Rattle.std.specs.List.{slice_get, AllByRecursion as All}
+use Rattle.std.specs.List.{slice_get, AllByRecursion}
 use Rattle.std.proofs.ByRecursion.{All-weaker}
 use Rattle.std.proofs.lemmas.List.{reverse-append, take_more_set, length-take-le}
 use Rattle.costs.specs.Kind.{Kind}
@@ -43,10 +43,10 @@ module _ {C R : Type 0} (K : Kind C R) (net : Net C) (loads : List ℕ) where
     pub leads : Leads K net loads 1 at ss met to cost
     pub sum : K.group.plus value cost ≡ y
     pub rises : Rising rank at met
-    pub rooms : All (HasRoom K net loads left) ss
+    pub rooms : AllByRecursion (HasRoom K net loads left) ss
     pub asked : left ≤ amount
     pub positive : 1 ≤ amount → 1 ≤ left
-    pub most : (z : ℕ) → z ≤ amount → All (HasRoom K net loads z) ss → z ≤ left
+    pub most : (z : ℕ) → z ≤ amount → AllByRecursion (HasRoom K net loads z) ss → z ≤ left
 
   module _ {n u : ℕ} {t : Work R} (searched : Searched K net loads (λ v. v ≡ u) n t true) where
     -- the entries of a search from u that ended

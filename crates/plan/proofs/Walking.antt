@@ -1,6 +1,6 @@
 -- Walks: one step more at the end, the last step apart, and the places met.
 use Rattle.std.proofs.Common.{◌≡◌, ℕ, suc, ◌<◌, ◌≤◌, List, [], ◌∷◌, ◌++◌, length, sym, refl, ap, ◌∙◌, subst, arith}
-use Rattle.std.specs.List.{AllByRecursion as All}
+use Rattle.std.specs.List.{AllByRecursion}
 use Rattle.costs.specs.Group.{Group}
 use Rattle.costs.specs.Kind.{Kind}
 use Rattle.networks.specs.Net.{Net}
@@ -84,7 +84,7 @@ module _ {C R : Type 0} (K : Kind C R) (net : Net C) (loads : List ℕ) where
           }
 
   -- every place that a walk meets is an end of a way
-  pub leads_within : {x u v : ℕ} {ss : List Step} {vs : List ℕ} {c : G.Carrier} (n : ℕ) → Fits K n net.ways → Leads K net loads x u ss vs v c → All (λ y. y < n) vs
+  pub leads_within : {x u v : ℕ} {ss : List Step} {vs : List ℕ} {c : G.Carrier} (n : ℕ) → Fits K n net.ways → Leads K net loads x u ss vs v c → AllByRecursion (λ y. y < n) vs
   leads_within n fits (there u) = tt
   leads_within n fits (then u v w s ss vs c d r g l p) = (gives_within n fits g, leads_within n fits p)
     where

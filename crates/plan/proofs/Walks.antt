@@ -1,6 +1,6 @@
 -- Walks of open steps: their rooms, and how they are cut down to routes.
 use Rattle.std.proofs.Common.{◌≡◌, ℕ, ◌<◌, ◌≤◌, ◌⊎◌, List, [], ◌∷◌, ◌++◌, length, sym, ◌∙◌, subst, inl, inr, ⊎_elim, arith}
-use Rattle.std.specs.List.{AllByRecursion as All}
+use Rattle.std.specs.List.{AllByRecursion}
 use Rattle.costs.specs.Kind.{Kind}
 use Rattle.networks.specs.Net.{Net}
 use Rattle.plan.specs.declared.step.Step.{Step}
@@ -34,11 +34,11 @@ module _ {C R : Type 0} (K : Kind C R) (net : Net C) (f : List ℕ) where
   HasRoom x s = (u v r : ℕ) (c : K.group.Carrier) → Gives K net f s u v c r → x ≤ r
 
   -- steps that lead with room for x are those that lead, each with room for x
-  pub leads_rooms : {x u v : ℕ} {ss : List Step} {vs : List ℕ} {c : K.group.Carrier} → Leads K net f x u ss vs v c → All (HasRoom x) ss
+  pub leads_rooms : {x u v : ℕ} {ss : List Step} {vs : List ℕ} {c : K.group.Carrier} → Leads K net f x u ss vs v c → AllByRecursion (HasRoom x) ss
   leads_rooms (there u) = tt
   leads_rooms {x} (then u v w s ss vs c d r g l rest) = (λ u' v' r' c' g'. subst (λ z. x ≤ z) (one_step g g').3 l, leads_rooms rest)
 
-  pub rooms_lead : {x y u v : ℕ} {ss : List Step} {vs : List ℕ} {c : K.group.Carrier} → All (HasRoom x) ss → Leads K net f y u ss vs v c → Leads K net f x u ss vs v c
+  pub rooms_lead : {x y u v : ℕ} {ss : List Step} {vs : List ℕ} {c : K.group.Carrier} → AllByRecursion (HasRoom x) ss → Leads K net f y u ss vs v c → Leads K net f x u ss vs v c
   rooms_lead all (there u) = there u
   rooms_lead all (then u v w s ss vs c d r g l rest) = then u v w s ss vs c d r g (all.0 u v r c g) (rooms_lead all.1 rest)
 

@@ -1,6 +1,6 @@
 -- A list of calls and their answers, and the law at each of them with no premise left.
 use Rattle.std.specs.Prelude.{◌≡◌, ℕ, zero, suc, ◌+◌, ◌≤◌, List, [], ◌∷◌, slice_index_or}
-use Rattle.std.specs.List.{ContainsAt as Has}
+use Rattle.std.specs.List.{ContainsAt}
 use Rattle.costs.specs.Kind.{Kind}
 use Rattle.networks.specs.Net.{Net}
 use Rattle.plan.specs.declared.calls.Answer.{Answer}
@@ -34,7 +34,7 @@ module _ {C R : Type 0} (K : Kind C R) (net : Net C) where
   pub record Kept (h : List Event) (s : State) (e : Event) (s' : State) : Type 0 where
     pub by_rule : Rule K net e.work s e.call e.answer s'
     -- once an open was accepted: the load keeps every limit, is least, and accounts for every booking
-    pub sound : (work : ℕ) → Has (e ∷ h) (record { call = Open; work = work; answer = Opened }) → Sound K net (e ∷ h) s'
+    pub sound : (work : ℕ) → ContainsAt (e ∷ h) (record { call = Open; work = work; answer = Opened }) → Sound K net (e ∷ h) s'
     -- blocked is answered only if no load meets the bookings
     pub blocked_only_if : Blocks K net e.answer → Possible K net h → ⊥
     pub settled_fairly : (budget n : ℕ) (x : Ending) → e.call ≡ Settle budget → e.answer ≡ Ran n x → SettledFairly h s budget n x s'

@@ -1,6 +1,6 @@
 -- The law over runs: what holds after every list of calls.
 use Rattle.std.specs.Prelude.{◌≡◌, ℕ, zero, suc, ◌+◌, ◌<◌, ◌≤◌, cond, List, [], ◌∷◌, ℤ, pos, ◌+ℤ◌, ◌-ℤ◌, ◌==◌, int_lt, unsigned_abs}
-use Rattle.std.specs.List.{ContainsAt as Has}
+use Rattle.std.specs.List.{ContainsAt}
 use Rattle.costs.specs.Kind.{Kind}
 use Rattle.networks.specs.Net.{Net}
 use Rattle.plan.specs.declared.calls.Answer.{Answer}
@@ -74,7 +74,7 @@ module _ {C R : Type 0} (K : Kind C R) (net : Net C) where
 
   pub record Law : Type 0 where
     -- after every run in which an open was accepted
-    pub sound : (h : List Event) (s : State) (work : ℕ) → Trace h s → Has h (record { call = Open; work = work; answer = Opened }) → Sound h s
+    pub sound : (h : List Event) (s : State) (work : ℕ) → Trace h s → ContainsAt h (record { call = Open; work = work; answer = Opened }) → Sound h s
     -- blocked is answered only if no load meets the bookings
     pub blocked_only_if : (h : List Event) (s s' : State) (work : ℕ) (c : Call) (a : Answer) → Trace h s → Rule K net work s c a s' → Blocks a → Possible h → ⊥
     -- a settle whose budget is no smaller than the sum of the positive rests answers settled, every rest then zero, if some load meets the bookings

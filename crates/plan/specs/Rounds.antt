@@ -1,6 +1,6 @@
 -- What rounds of scans do to work tables t, which become t': entries fall to the least costs of walks from the entries of t.
 use Rattle.std.specs.Prelude.{◌≡◌, ℕ, ◌+◌, ◌*◌, ◌<◌, ◌≤◌, Bool, true, false, ◌⊎◌, List, length, Some}
-use Rattle.std.specs.List.{slice_get, AllByRecursion as All}
+use Rattle.std.specs.List.{slice_get, AllByRecursion}
 use Rattle.costs.specs.Kind.{Kind}
 use Rattle.networks.specs.Net.{Net}
 use Rattle.plan.specs.declared.step.Step.{Step}
@@ -29,7 +29,7 @@ module _ {C R : Type 0} (K : Kind C R) (net : Net C) (loads : List ℕ) where
     pub walk : Walk t place value steps v cost
     pub sum : y ≡ K.group.plus value cost
     pub start : place < length t.rows
-    pub within : All (λ w. w < length t.rows) walk.met
+    pub within : AllByRecursion (λ w. w < length t.rows) walk.met
 
   -- some entry is less than what any walk of fewer than n steps gives
   pub record Fell (t t' : Work R) (n : ℕ) : Type 0 where

@@ -1,6 +1,6 @@
 -- What a search leaves in work tables t: the least costs of walks from its starts.
 use Rattle.std.specs.Prelude.{◌≡◌, ℕ, ◌*◌, ◌<◌, ◌≤◌, Bool, true, false, ◌⊎◌, List, length, Some}
-use Rattle.std.specs.List.{AllByRecursion as All}
+use Rattle.std.specs.List.{AllByRecursion}
 use Rattle.costs.specs.Kind.{Kind}
 use Rattle.networks.specs.Net.{Net}
 use Rattle.plan.specs.declared.step.Step.{Step}
@@ -17,7 +17,7 @@ module _ {C R : Type 0} (K : Kind C R) (net : Net C) (loads : List ℕ) (starts 
     pub begins : starts place
     pub leads : Leads K net loads 1 place steps met v y
     pub inside : place < n
-    pub within : All (λ w. w < n) met
+    pub within : AllByRecursion (λ w. w < n) met
 
   -- some entry is less than the cost of any walk of fewer than n steps
   pub record Deep (t : Work R) (n : ℕ) : Type 0 where

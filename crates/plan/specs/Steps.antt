@@ -1,6 +1,6 @@
 -- The steps (residual arcs) that a load leaves, and the routes, rings, reach and prices that they give.
 use Rattle.std.specs.Prelude.{◌≡◌, ℕ, ◌-◌, ◌<◌, ◌≤◌, ◌≢◌, List, [], ◌∷◌, Some, slice_index}
-use Rattle.std.specs.List.{slice_get, AllByRecursion as All}
+use Rattle.std.specs.List.{slice_get, AllByRecursion}
 use Rattle.costs.specs.Kind.{Kind}
 use Rattle.networks.specs.Net.{Net, Way}
 use Rattle.plan.specs.declared.step.Step.{Step}
@@ -23,7 +23,7 @@ module _ {C R : Type 0} (K : Kind C R) (net : Net C) (f : List ℕ) where
 -- no number stands twice
 abbrev pub Apart : List ℕ → Type 0
 Apart [] = Unit {0}
-Apart (x ∷ xs) = All (λ y. x ≢ y) xs × Apart xs
+Apart (x ∷ xs) = AllByRecursion (λ y. x ≢ y) xs × Apart xs
 
 module _ {C R : Type 0} (K : Kind C R) (net : Net C) (f : List ℕ) where
   -- a route from u to v of cost c meets no place twice; each of its steps has room for x
