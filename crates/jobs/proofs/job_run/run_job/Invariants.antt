@@ -1,5 +1,5 @@
 -- The records so far were put to the plan, and gave the text.
-use Rattle.std.proofs.Common.{◌≡◌, ◌-◌, List, length, vec_items, vec_len, string_bytes}
+use Rattle.std.proofs.Common.{◌≡◌, ◌-◌, length, vec_len, string_bytes}
 use Rattle.jobs.specs.Sections.{section_net}
 use Rattle.jobs.proofs.Putting.{CameSo}
 use Rattle.jobs.proofs.Progress.{Come}

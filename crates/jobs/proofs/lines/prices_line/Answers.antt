@@ -1,4 +1,4 @@
-use Rattle.std.proofs.Common.{◌≡◌, ◌<◌, ◌≤◌, ◌++◌, length, get_or, ℤ, pos, codes, ap, ◌∙◌, arith, w64, SFits, rules}
+use Rattle.std.proofs.Common.{◌≤◌, ◌++◌, length, get_or, ℤ, pos, codes, ap, ◌∙◌, arith, w64, SFits, rules}
 use Rattle.std.proofs.lemmas.List.{take_all}
 use Rattle.std.proofs.lemmas.Int.{to_z-of_z}
 use Rattle.jobs.specs.Lines.{price_words}
@@ -10,11 +10,11 @@ loop-i-preserved c =
     let p : ℤ × ℤ = get_or c.args.rows.now c.loop-i.i (pos 0, pos 0) in
     let f : SFits w64 p.0 = search rules in
     let g : SFits w64 p.1 = search rules in
-    c.in-ok-push-str.ensures.bytes
-    ∙ one_price_more c.args.rows.now c.loop-i.i (pos 0, pos 0) (codes "prices") _ _ _ _ c.loop-i-test.true (to_z-of_z w64 p.0 f) (to_z-of_z w64 p.1 g) c.loop-i.invariant (c.as-str.ensures.value ∙ c.in-ok-price.ensures)
+    c.in_ok-push_str.ensures.bytes
+    ∙ one_price_more c.args.rows.now c.loop-i.i (pos 0, pos 0) (codes "prices") _ _ _ _ c.loop-i-test.true (to_z-of_z w64 p.0 f) (to_z-of_z w64 p.1 g) c.loop-i.invariant (c.as_str.ensures.value ∙ c.in_ok-price.ensures)
 
 pub returns : goal.returns
 returns c =
     let t = c.loop-i-test.false in
     let l : length c.args.rows.now ≤ c.loop-i.i = omega arith in
-    c.in-ok-push-str-2.ensures.bytes ∙ ap (λ ys. ys ++ codes "\n") (c.loop-i.invariant ∙ ap (λ ps. codes "prices" ++ price_words ps) (take_all c.loop-i.i c.args.rows.now l))
+    c.in_ok-push_str-2.ensures.bytes ∙ ap (λ ys. ys ++ codes "\n") (c.loop-i.invariant ∙ ap (λ ps. codes "prices" ++ price_words ps) (take_all c.loop-i.i c.args.rows.now l))

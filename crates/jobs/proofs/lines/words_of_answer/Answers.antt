@@ -8,8 +8,8 @@ pub returns-in-Sent : goal.returns-in-Sent
 returns-in-Sent c =
     IfOk-weaker c.format-in-Sent.result _ _ (λ s e. e ∙ ((simp append_assoc) ∙ ap (answer_words c.args.offset) (sym c.in-Sent.is))) c.format-in-Sent.ensures.ok
 
-pub returns-in-ok-end : goal.returns-in-ok-end
-returns-in-ok-end c =
+pub returns-in_ok-end-in-Ran : goal.returns-in_ok-end-in-Ran
+returns-in_ok-end-in-Ran c =
     IfOk-weaker c.format-in-Ran.result _ _
-    (λ s e. e ∙ (ran_words c.in-Ran.routes c.in-Ran.ending _ c.in-ok-end.ensures ∙ ap (answer_words c.args.offset) (sym c.in-Ran.is)))
+    (λ s e. e ∙ (ran_words c.in-Ran.routes c.in-Ran.ending _ c.in_ok-end-in-Ran.ensures ∙ ap (answer_words c.args.offset) (sym c.in-Ran.is)))
     c.format-in-Ran.ensures.ok
