@@ -21,7 +21,7 @@ pub fn checked(heap: Global, form: Form, file: &[u8]) -> Result<String, AllocErr
 pub fn copied(heap: Global, form: Form, file: &[u8]) -> Result<String, AllocError> {
     let mut table = vec![in heap; BLANK; file.len()]?;
     match copy_file(form, file, table.as_mut_slice()) {
-        Ok(n) if table == file => format!(in heap; "copied {n}\n"),
+        Ok(n) if table.as_slice() == file => format!(in heap; "copied {n}\n"),
         Ok(n) => format!(in heap; "copied {n}, and not the same\n"),
         Err(fault) => {
             let number = fault.refusal.number();
