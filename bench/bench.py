@@ -1,6 +1,6 @@
 """The program job beside two other solvers of minimum-cost flows: how long each takes, and whether all find the same least cost.
 
-    python3 bench/bench.py                   run target/bin/job, dimacs-solver and glpsol, and print the table
+    python3 bench/bench.py                   run crates/job/out/job, dimacs-solver and glpsol, and print the table
     python3 bench/bench.py --job PATH        run another build of the program
     python3 bench/bench.py --only sparse     run the instances whose name has this word
     python3 bench/bench.py --runs 1          time each program once and not three times
@@ -338,7 +338,7 @@ def compare_all(programs, directory, options):
 
 def parsed(arguments):
     parser = argparse.ArgumentParser(description="Time the program job beside dimacs-solver and glpsol, and compare the least costs.")
-    parser.add_argument("--job", default=str(ROOT / "target/bin/job"), help="the program job (target/bin/job)")
+    parser.add_argument("--job", default=str(ROOT / "crates/job/out/job"), help="the program job (crates/job/out/job)")
     parser.add_argument("--only", default="", help="only the instances whose name has this word")
     parser.add_argument("--runs", type=int, default=3, help="how often each program is timed (3); the fastest counts")
     parser.add_argument("--limit", type=float, default=120, help="the most seconds of one run (120)")
@@ -352,7 +352,7 @@ def parsed(arguments):
 def main(arguments):
     options = parsed(arguments)
     if shutil.which(options.job) is None:
-        print(f"no program {options.job}: build it with rt check job, or name it with --job", file=sys.stderr)
+        print(f"no program {options.job}: build it with rt run in crates/job, or name it with --job", file=sys.stderr)
         return 2
     programs = [(run_job, options.job), (run_lemon, shutil.which("dimacs-solver")), (run_glpk, shutil.which("glpsol"))]
     with tempfile.TemporaryDirectory() as scratch:

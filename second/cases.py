@@ -5,7 +5,7 @@ lines, as planner.forced finds out; random files of which it does not are left o
 
     python3 second/cases.py count     how many cases there are, with what they hold and the time it took
     python3 second/cases.py show N    case N: its listing and what is printed
-    python3 second/cases.py write     write the stdin and stdout of the programs job, grid, worked and run_cases
+    python3 second/cases.py write     write the stdin and stdout of the programs job, worked and run_cases
     python3 second/cases.py check     fail where one of these files is not what it writes
 """
 
@@ -491,9 +491,9 @@ def show(number):
 
 
 def programs():
-    """What the programs are run on, and what they must print."""
-    all_cases = list(cases())
-    example = {JOB: jobfile.TWO_STUDIES, GRID: jobfile.ONE_GROUP}
+    """What the programs are run on, and what they must print. No program runs a grid yet."""
+    all_cases = [case for case in cases() if case[0] == JOB]
+    example = {JOB: jobfile.TWO_STUDIES}
     files = {f"crates/{form}/stdin": file for form, file in example.items()}
     files |= {f"crates/{form}/stdout": planner.printed(form, file, checked).encode() for form, file in example.items()}
     files["crates/worked/stdout"] = ("\n".join(worked.lines()) + "\n").encode()

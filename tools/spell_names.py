@@ -3,7 +3,7 @@
 
 It reads the names that specs/ and proofs/ declare with a dash in them, and respells each wherever it stands in a
 .antt or .rt file below crates/. Goals, invariants and other names that Rattle makes keep their dashes.
-`--docs` respells them in README.md and docs/ too, between backticks; `--map` prints the map alone.
+`--map` prints the map alone.
 """
 import pathlib
 import re

@@ -1,6 +1,7 @@
-// Runs many job and grid files from standard input, one case after the other.
+// Runs many job files from standard input, one case after the other.
 #![tactic(auto)]
 
+use anyhow::anyhow;
 use cases::{Case, first_case};
 use jobs::{Form, run_job};
 use std::io::Read;
@@ -8,7 +9,7 @@ use std::io::Read;
 fn show(rt: &HostRuntime, number: usize, case: Case) -> anyhow::Result<()> {
     let text = match case.form {
         Form::Job => run_job(rt.alloc(), case.file)?,
-        Form::Grid => run_job(rt.alloc(), case.file)?,
+        Form::Grid => return Err(anyhow!("case {number} is a grid, and only jobs are run")),
     };
     print!(rt; "case {number}\n{text}")?;
     Ok(())
