@@ -1,5 +1,6 @@
-// The writer at the last place where a record fits, one past it, and far past it.
-use jobs::Entry;
+// The writer at the last place where a record fits, one past it, and far past it; a line as text and in a table; a network in words.
+use jobs::{Entry, FileSection, Line, list_network};
+use std::alloc::AllocError;
 use std::test::Fail;
 
 // A record of five bytes.
@@ -35,5 +36,32 @@ fn an_offset_past_every_table_is_refused(rt: HostRuntime) -> Result<(), Fail> {
     };
     assert_eq!(rt; refusal.number(), 12);
     assert_eq!(rt; table, [7; 8]);
+    Ok(())
+}
+
+#[test]
+fn a_line_is_made(rt: HostRuntime) -> Result<(), AllocError> {
+    let text = Line::WholeTotal { misfit: -7 }.text(rt.alloc())?;
+    assert!(rt; text.as_str() == "total -7\n");
+    Ok(())
+}
+
+#[test]
+fn a_line_is_put_at_the_beginning(rt: HostRuntime) -> Result<(), AllocError> {
+    let mut table = [1; 11];
+    let put = Line::WholeTotal { misfit: -7 }.write(rt.alloc(), &mut table)?;
+    assert!(rt; put == Ok(9));
+    assert_eq!(rt; table, *b"total -7\n\x01\x01");
+    Ok(())
+}
+
+// A job of two places and one way: at most 3, no redraws and a misfit of 9.
+const ONE_WAY: [u8; 22] =
+    *b"\x01\x00\x02\x00\x01\x02\x00\x00\x00\x01\x00\x00\x00\x03\x00\x00\x00\x00\x00\x00\x00\x09";
+
+#[test]
+fn a_network_is_told(rt: HostRuntime) -> Result<(), AllocError> {
+    let text = list_network(rt.alloc(), &FileSection::new(&ONE_WAY))?;
+    assert!(rt; text.as_str() == "places 2 ways 1\nway 0 from 0 to 1 limit 3 cost 0 9\n");
     Ok(())
 }

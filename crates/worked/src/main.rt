@@ -1,6 +1,9 @@
 // Two studies share five places: the calls of a plan, made one after the other, and what it answers.
 #![tactic(auto)]
 
+#[cfg(test)]
+mod tests;
+
 use costs::{Cost, Pair, Whole};
 use networks::{Refusal, WayRecord, WayTable};
 use plan::{Ending, Outcome, Plan, Routed};
