@@ -4,7 +4,7 @@ use crate::cost::{Cost, HEAVIEST};
 use std::cmp::Ordering;
 
 // Two costs, compared by the first and then by the second.
-#[derive(Clone, Copy)]
+#[derive(Clone, Copy, PartialEq, Eq, PartialOrd, Ord, Hash, Debug)]
 pub struct Pair<A, B> {
     pub first: A,
     pub second: B,
@@ -43,6 +43,7 @@ where
         }
     }
 
+    // Each part is asked itself: the derived order would want `Ord` of them, which a kind of cost need not have.
     fn compare(self, other: Pair<A, B>) -> Ordering {
         self.first
             .compare(other.first)

@@ -1,5 +1,5 @@
 -- The ways of a size grid, by their numbers.
-use Rattle.std.proofs.Common.{◌≡◌, ℕ, zero, suc, ◌+◌, ◌-◌, ◌*◌, ◌/◌, ◌%◌, ◌<◌, ◌≤◌, cond, List, length, Some, None, sym, ap, ◌∙◌, mul-le-mul, mul-zero, zero-add, arith, le-ltb, lt-ltb}
+use Rattle.std.proofs.Common.{◌≡◌, ℕ, zero, suc, ◌+◌, ◌-◌, ◌*◌, ◌/◌, ◌%◌, ◌<◌, ◌≤◌, cond, List, length, Some, None, sym, ap, ◌∙◌, mul-zero, zero-add, arith, le-ltb, lt-ltb}
 use Rattle.std.specs.List.{slice_get, range_with_len}
 use Rattle.std.proofs.lemmas.Nat.{div_below, mod_below}
 use Rattle.std.proofs.lemmas.List.FromFn.{length-range_with_len, get_or-range_with_len, length-map-range_with_len}
@@ -17,9 +17,6 @@ row_within k g l h = div_below k l g (some_columns k g l h) h
 
 pub column_within : (k g l : ℕ) → k < g * l → k % l < l
 column_within k g l h = mod_below k l (some_columns k g l h)
-
-pub small_product : (g l : ℕ) → g ≤ 1024 → l ≤ 1024 → g * l ≤ 1048576
-small_product g l p q = mul-le-mul p q
 
 module _ (gs : List Group) (ls : List Last) (k : ℕ) where
   at_number : k < length gs * length ls + length ls → slice_get (grid_net gs ls).ways k ≡ Some (grid_way gs ls k)

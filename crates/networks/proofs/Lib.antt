@@ -1,4 +1,3 @@
 pub mod Looked
-pub mod Marked
 pub mod Layered
 pub mod Gridded

@@ -1,11 +1,13 @@
 -- What a size grid means: its places are the groups, the lasts and one collector, in this order.
-use Rattle.std.specs.Prelude.{ℕ, ◌+◌, ◌-◌, ◌*◌, ◌/◌, ◌%◌, cond, List, map, length, pos, nat_lt, slice_index_or}
-use Rattle.std.specs.List.{range_with_len}
+use Rattle.std.specs.Prelude.{◌≡◌, ℕ, ◌<◌, Some, None, Option, ◌+◌, ◌-◌, ◌*◌, ◌/◌, ◌%◌, cond, List, map, length, pos, nat_lt, slice_index_or}
+use Rattle.std.specs.List.{range_with_len, slice_get}
 use Rattle.costs.specs.Whole.{whole_kind}
 use Rattle.costs.specs.declared.whole.Whole.{Whole}
 use Rattle.networks.specs.Net.{Net, Way}
 use Rattle.networks.specs.declared.sizes.Group.{Group}
 use Rattle.networks.specs.declared.sizes.Last.{Last}
+use Rattle.networks.specs.declared.part.Part.{Part}
+use Rattle.networks.specs.declared.part.Part.TheVariants.{Fitting, Collecting}
 
 -- at most so many records of each table count
 abbrev pub most_sizes : ℕ
@@ -45,3 +47,9 @@ module _ (gs : List Group) (ls : List Last) where
 
   abbrev pub grid_net : Net Whole
   grid_net = record { places = length gs + length ls + 1; ways = map grid_way (range_with_len 0 (length gs * length ls + length ls)) }
+
+  -- so is way k, if there is one
+  abbrev pub IsPart : ℕ → Option Part → Type 0
+  IsPart k None = slice_get grid_net.ways k ≡ None
+  IsPart k (Some (Fitting i j)) = (i < length gs) × (j < length ls) × (slice_get grid_net.ways k ≡ Some (fitting i j))
+  IsPart k (Some (Collecting j)) = (j < length ls) × (slice_get grid_net.ways k ≡ Some (collecting j))

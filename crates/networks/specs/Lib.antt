@@ -3,4 +3,5 @@ pub mod Net
 pub mod Refusals
 pub mod Tables
 pub mod Grids
+pub mod Changes
 pub mod Layers

@@ -1,15 +1,14 @@
-ghost use Rattle.std.specs.Prelude.{◌≡◌, ◌+◌, ◌*◌, ◌≤◌, length, take};
-ghost use Rattle.std.specs.List.{slice_get};
-ghost use Rattle.networks.specs.Net.{ends_of, cost_of};
-ghost use Rattle.networks.specs.Grids.{most_sizes, difference, amount, grid_net};
+ghost use Rattle.std.specs.Prelude.{◌≡◌, ◌≤◌, length, take};
+ghost use Rattle.networks.specs.Grids.{most_sizes, difference, amount, grid_net, IsPart};
 
 use super::ends::Ends;
 use super::network::Network;
+use super::part::Part;
 use super::sizes::{Group, Last};
 use costs::{Cost, Whole};
 
 // Every group may go to every last, and every last to one collector. Ways are answered by formula, and none is stored.
-#[derive(Clone, Copy)]
+#[derive(Clone, Copy, PartialEq, Eq, Debug)]
 pub struct SizeGrid<'a> {
     pub groups: &'a [Group],
     pub lasts: &'a [Last],
@@ -20,36 +19,7 @@ fn used<T>(records: &[T]) -> &[T]
     ensures front { result.now ≡ take most_sizes records.now }
     ensures few { length result.now ≤ most_sizes }
 {
-    if records.len() > 1024 {
-        &records[0..1024]
-    } else {
-        records
-    }
-}
-
-fn grid_ends(groups: &[Group], lasts: &[Last], k: usize) -> Option<Ends>
-    requires few { (length groups.now ≤ most_sizes) × (length lasts.now ≤ most_sizes) }
-    ensures { result ≡ ends_of (slice_get (grid_net groups.now lasts.now).ways k) }
-{
-    let cells = groups.len() * lasts.len();
-    if k < cells {
-        let i = k / lasts.len();
-        let j = k % lasts.len();
-        return Some(Ends {
-            tail: i,
-            head: groups.len() + j,
-            limit: groups[i].count,
-        });
-    }
-    let j = k - cells;
-    if j >= lasts.len() {
-        return None;
-    }
-    Some(Ends {
-        tail: groups.len() + j,
-        head: groups.len() + lasts.len(),
-        limit: lasts[j].stock,
-    })
+    &records[..records.len().min(1024)]
 }
 
 // How far two lengths are apart, as a cost.
@@ -59,20 +29,23 @@ fn apart(a: u16, b: u16) -> Whole
     Whole::read(i64::from(a.abs_diff(b)))
 }
 
-fn grid_cost(groups: &[Group], lasts: &[Last], k: usize) -> Option<Whole>
+// What way `k` of the grid over these tables is, or none if that is no way.
+fn part(groups: &[Group], lasts: &[Last], k: usize) -> Option<Part>
     requires few { (length groups.now ≤ most_sizes) × (length lasts.now ≤ most_sizes) }
-    ensures { result ≡ cost_of (slice_get (grid_net groups.now lasts.now).ways k) }
+    ensures { IsPart groups.now lasts.now k result }
 {
     let cells = groups.len() * lasts.len();
     if k < cells {
-        let group = groups[k / lasts.len()];
-        let last = lasts[k % lasts.len()];
-        return Some(apart(group.length, last.length));
+        let i = k / lasts.len();
+        let j = k % lasts.len();
+        return Some(Part::Fitting { i, j });
     }
-    if k - cells >= lasts.len() {
-        return None;
+    let j = k - cells;
+    if j < lasts.len() {
+        Some(Part::Collecting { j })
+    } else {
+        None
     }
-    Some(Whole::read(0))
 }
 
 impl<'a> Network for SizeGrid<'a> {
@@ -90,10 +63,32 @@ impl<'a> Network for SizeGrid<'a> {
     }
 
     fn way(&self, k: usize) -> Option<Ends> {
-        grid_ends(used(self.groups), used(self.lasts), k)
+        let groups = used(self.groups);
+        let lasts = used(self.lasts);
+        Some(match part(groups, lasts, k)? {
+            Part::Fitting { i, j } => Ends {
+                tail: i,
+                head: groups.len() + j,
+                limit: groups[i].count,
+            },
+            Part::Collecting { j } => Ends {
+                tail: groups.len() + j,
+                head: groups.len() + lasts.len(),
+                limit: lasts[j].stock,
+            },
+        })
     }
 
     fn cost(&self, k: usize) -> Option<Whole> {
-        grid_cost(used(self.groups), used(self.lasts), k)
+        let groups = used(self.groups);
+        let lasts = used(self.lasts);
+        match part(groups, lasts, k)? {
+            Part::Fitting { i, j } => {
+                let group = groups[i];
+                let last = lasts[j];
+                Some(apart(group.length, last.length))
+            }
+            Part::Collecting { .. } => Some(Whole::read(0)),
+        }
     }
 }

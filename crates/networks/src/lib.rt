@@ -1,23 +1,22 @@
 #![tactic(auto)]
 
+mod change;
 mod ends;
 mod grid;
-mod marks;
+mod layer;
 mod network;
-mod redraw;
+mod part;
 mod refusal;
-mod shut;
 mod sizes;
 mod table;
-mod way_list;
 mod way_record;
 
+pub use change::{Change, Redrawing, Shutting};
 pub use ends::Ends;
 pub use grid::SizeGrid;
+pub use layer::{Layer, Redraw, Shut};
 pub use network::Network;
-pub use redraw::Redraw;
 pub use refusal::Refusal;
-pub use shut::Shut;
 pub use sizes::{Group, Last};
 pub use table::WayTable;
 pub use way_record::WayRecord;

@@ -26,11 +26,7 @@ impl<'a, C: Cost> Network for WayTable<'a, C> {
     }
 
     fn way(&self, k: usize) -> Option<Ends> {
-        if k >= self.records.len() {
-            return None;
-        }
-        let record = self.records[k];
-        Some(Ends {
+        self.records.get(k).map(|record| Ends {
             tail: record.tail,
             head: record.head,
             limit: record.limit,
@@ -38,9 +34,6 @@ impl<'a, C: Cost> Network for WayTable<'a, C> {
     }
 
     fn cost(&self, k: usize) -> Option<C> {
-        if k >= self.records.len() {
-            return None;
-        }
-        Some(C::read(self.records[k].cost))
+        self.records.get(k).map(|record| C::read(record.cost))
     }
 }

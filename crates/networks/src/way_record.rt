@@ -1,5 +1,5 @@
 // A way in a table, with the row of its cost.
-#[derive(Clone, Copy)]
+#[derive(Clone, Copy, PartialEq, Eq, Debug)]
 pub struct WayRecord<R> {
     pub tail: usize,
     pub head: usize,

@@ -1,6 +1,6 @@
 ghost use Rattle.std.specs.Prelude.{◌≡◌, ◌<◌, MatchOption, unsigned_abs};
 ghost use Rattle.costs.specs.Kind.{heaviest};
-ghost use Rattle.costs.specs.Whole.{nearest, whole_kind};
+ghost use Rattle.costs.specs.Whole.{whole_kind};
 
 use crate::cost::{Cost, HEAVIEST, LIGHT};
 use crate::whole::Whole;
@@ -18,13 +18,6 @@ impl Whole {
         }
         Some(Whole { amount })
     }
-}
-
-// The number itself, or the nearer bound if it lies outside.
-fn clamped(row: i64) -> i64
-    ensures { result ≡ nearest row }
-{
-    row.clamp(-BOUND, BOUND)
 }
 
 impl Cost for Whole {
@@ -52,11 +45,11 @@ impl Cost for Whole {
     }
 
     fn compare(self, other: Whole) -> Ordering {
-        self.amount.cmp(&other.amount)
+        self.cmp(&other)
     }
 
     fn times(self, n: u32) -> Option<Whole> {
-        if n > LIGHT || self.weight() > LIGHT as u64 {
+        if n > LIGHT || self.weight() > u64::from(LIGHT) {
             return None;
         }
         Some(Whole {
@@ -72,9 +65,10 @@ impl Cost for Whole {
         self.amount
     }
 
+    // The number itself, or the nearer bound if it lies outside.
     fn read(row: i64) -> Whole {
         Whole {
-            amount: clamped(row),
+            amount: row.clamp(-BOUND, BOUND),
         }
     }
 }

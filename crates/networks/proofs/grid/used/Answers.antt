@@ -1,7 +1,9 @@
-use Rattle.std.proofs.Common.{sym}
-use Rattle.std.proofs.lemmas.List.{take_all}
+-- The front of a table is the table, cut to what counts.
+use Rattle.std.proofs.Common.{◌≡◌, min, take, length, ap, ◌∙◌, arith}
+use Rattle.std.proofs.lemmas.List.{take_min}
 use Rattle.networks.proofs.grid.used.Goals as goal
 
-pub returns-else-records-gt1024 : goal.returns-else-records-gt1024
-returns-else-records-gt1024 g c =
-    record { front = sym (take_all 1024 c.args.records.now c.if-records-gt1024.false); few = c.if-records-gt1024.false }
+pub returns-clause-front : goal.returns-clause-front
+returns-clause-front g c =
+    let n : c.min.result ≡ min 1024 (length c.args.records.now) = omega (arith, c.min.ensures) in
+    ap (λ k. take k c.args.records.now) n ∙ take_min 1024 c.args.records.now
