@@ -25,7 +25,7 @@ pub(crate) fn multiple<C: Cost>(cost: C, n: u32) -> Option<C>
     ensures made { Multiplies C.Cost.kind n cost result }
     ensures light { IfSome result (λ s. C.Cost.kind.weighs s ≤ n * C.Cost.kind.weighs cost) }
 {
-    if n > LIGHT || cost.weight() > LIGHT as u64 {
+    if n > LIGHT || cost.weight() > u64::from(LIGHT) {
         return None;
     }
     doubled(cost, n)

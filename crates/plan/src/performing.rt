@@ -1,7 +1,6 @@
 ghost use Rattle.std.specs.Prelude.{◌≡◌, length, drop};
 ghost use Rattle.plan.specs.Plans.{CalledLawfully};
 
-use super::answers::{booked, opened, routed, settled};
 use super::calls::{Answer, Call};
 use super::planner::Plan;
 use costs::Cost;
@@ -15,10 +14,18 @@ impl<N: Network + Drop> Plan<N> {
         ensures law { CalledLawfully N.Cost.Cost.kind (N.Network.means self.old.net) self.old call (length work.old) result self.new }
     {
         match call {
-            Call::Open => opened(self.open(work)),
-            Call::Book { from, to, amount } => booked(self.book(from, to, amount)),
-            Call::Route => routed(self.route(work)),
-            Call::Settle { budget } => settled(self.settle(work, budget)),
+            Call::Open => self
+                .open(work)
+                .map_or_else(Answer::Refused, |()| Answer::Opened),
+            Call::Book { from, to, amount } => {
+                self.book(from, to, amount)
+                    .map_or_else(Answer::Refused, |()| Answer::Booked)
+            }
+            Call::Route => self.route(work).map_or_else(Answer::Refused, Answer::from),
+            Call::Settle { budget } => {
+                self.settle(work, budget)
+                    .map_or_else(Answer::Refused, Answer::from)
+            }
         }
     }
 }

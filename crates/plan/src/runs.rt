@@ -26,9 +26,9 @@ pub fn run_calls<N: Network + Drop>(
     ensures ran { IfOk result (RanThrough N.Cost.Cost.kind (N.Network.means net) net calls.now (length work.old)) }
 {
     let mut plan = Plan::new(heap, net)?;
-    let mut answers = vec![in heap; Answer::Opened; calls.len()]?;
-    for i in 0..calls.len() {
-        answers[i] = plan.perform(calls[i], work);
+    let mut answers = Vec::with_capacity(heap, calls.len())?;
+    for call in calls {
+        answers.push_reserved(plan.perform(*call, work));
     }
     Ok(Run { plan, answers })
 }

@@ -14,10 +14,7 @@ impl Table {
         ensures { MatchOption result (vec_len self.now.loads ≤ way)
             (λ n. (way < vec_len self.now.loads) × (n ≡ slice_index self.now.loads.items way)) }
     {
-        if way >= self.loads.len() {
-            return None;
-        }
-        Some(self.loads[way])
+        self.loads.get(way).copied()
     }
 
     // The rest of a place, or none if there is no such place.
@@ -25,10 +22,7 @@ impl Table {
         ensures { MatchOption result (vec_len self.now.rests ≤ place)
             (λ z. (place < vec_len self.now.rests) × (z ≡ slice_index_or self.now.rests.items place (pos 0))) }
     {
-        if place >= self.rests.len() {
-            return None;
-        }
-        Some(self.rests[place])
+        self.rests.get(place).copied()
     }
 
     // The sum of each load times the cost of its way. It is always made for an open plan, because none of its loads is above a limit.

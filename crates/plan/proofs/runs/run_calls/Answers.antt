@@ -1,4 +1,5 @@
-use Rattle.std.proofs.Common.{◌≡◌, ℕ, List, ◌∷◌, length, get_or, drop, vec_items, sym, refl, ◌∙◌, subst, subst₂, arith, length-set}
+-- Each call leads from the plan that the earlier ones left, and its answer is put behind theirs.
+use Rattle.std.proofs.Common.{◌≡◌, ℕ, List, ◌∷◌, ◌+◌, length, get_or, drop, vec_items, sym, refl, ap, ◌∙◌, subst, subst₂, arith}
 use Rattle.plan.specs.State.{Event}
 use Rattle.plan.specs.declared.calls.Call.TheVariants.{Open}
 use Rattle.plan.specs.Histories.{events}
@@ -7,49 +8,54 @@ use Rattle.plan.proofs.Lawful.{lawful}
 use Rattle.plan.proofs.Listed.{one_more}
 use Rattle.plan.proofs.runs.run_calls.Goals as goal
 
-pub loop-i-init : goal.loop-i-init
-loop-i-init g c =
-    let new = c.in_ok-plan.ensures in (
-      refl,
-      sym c.in_ok-answers.answers.ok.0 ∙ c.in_ok-answers.ensures.len,
-      refl,
-      subst (λ n. Runs g.N.Cost.Cost.kind (g.N.Network.means n) _ c.in_ok-plan.plan) (sym new.0) new.1,
-    )
+pub loop-call-init : goal.loop-call-init
+loop-call-init g c =
+    let new = c.in_ok-plan.ensures in record {
+      net = refl;
+      each = c.in_ok-answers.ensures.len;
+      room = c.in_ok-answers.ensures.capacity;
+      past = refl;
+      runs = subst (λ n. Runs g.N.Cost.Cost.kind (g.N.Network.means n) _ c.in_ok-plan.plan) (sym new.0) new.1;
+    }
 
-pub loop-i-preserved : goal.loop-i-preserved
-loop-i-preserved g c =
-    let inv = c.loop-i.invariant in
+pub push_reserved-requires : goal.push_reserved-requires
+push_reserved-requires g c = let inv = c.loop-call.invariant in omega (arith, inv.each, inv.room, c.loop-call-test.true)
+
+pub loop-call-preserved : goal.loop-call-preserved
+loop-call-preserved g c =
+    let inv = c.loop-call.invariant in
     let kind = g.N.Cost.Cost.kind in
-    let in-range = c.loop-i-test.true in
-    let long = inv.1 in
-    let before = events (length c.args.work.now) c.args.calls.now (vec_items c.loop-i.answers) c.loop-i.i in
-    let run = (c.perform.ensures.law before (subst (λ n. Runs kind (g.N.Network.means n) before c.loop-i.plan) (sym inv.0) inv.3)).runs in (
-      c.perform.ensures.net ∙ inv.0,
-      length-set _ _ _ ∙ inv.1,
-      subst (λ n. drop (g.N.Network.means n).places c.perform.new.work ≡ drop (g.N.Network.means n).places c.loop-i.work) inv.0 c.perform.ensures.past ∙ inv.2,
-      subst (λ h. Runs kind (g.N.Network.means c.in_ok-plan.plan.net) h c.perform.new.self)
-          (sym (one_more (length c.args.work.now) c.args.calls.now c.loop-i.answers.items c.loop-i.i c.perform.result _ refl (omega arith)))
-          (subst₂ (λ n w. Runs kind (g.N.Network.means n) (record { call = get_or c.args.calls.now c.loop-i.i Open; work = w; answer = c.perform.result } ∷ before) c.perform.new.self)
-          inv.0 c.loop-i.auto.work run),
-    )
+    let work = length c.args.work.now in
+    let i = c.loop-call.call-index in
+    let answers = c.loop-call.answers.items in
+    let long : length answers ≡ i = sym c.loop-call.answers.ok.0 ∙ inv.each in
+    let before = events work c.args.calls.now answers i in
+    let run = (c.perform.ensures.law before (subst (λ n. Runs kind (g.N.Network.means n) before c.loop-call.plan) (sym inv.net) inv.runs)).runs in record {
+      net = c.perform.ensures.net ∙ inv.net;
+      each = c.push_reserved.ensures.len ∙ ap (λ n. n + 1) inv.each;
+      room = omega (arith, inv.room, c.push_reserved.ensures.capacity);
+      past = subst (λ n. drop (g.N.Network.means n).places c.perform.new.work ≡ drop (g.N.Network.means n).places c.loop-call.work) inv.net c.perform.ensures.past ∙ inv.past;
+      runs = subst (λ h. Runs kind (g.N.Network.means c.in_ok-plan.plan.net) h c.perform.new.self)
+          (sym (ap (λ xs. events work c.args.calls.now xs (i + 1)) c.push_reserved.ensures.items ∙ one_more work c.args.calls.now answers c.perform.result i long))
+          (subst₂ (λ n w. Runs kind (g.N.Network.means n) (record { call = get_or c.args.calls.now i Open; work = w; answer = c.perform.result } ∷ before) c.perform.new.self)
+          inv.net c.loop-call.auto.work run);
+    }
 
 pub returns : goal.returns
 returns g c =
-    let inv = c.loop-i.invariant in
+    let inv = c.loop-call.invariant in
     let new = c.in_ok-plan.ensures in
     let kind = g.N.Cost.Cost.kind in
-    let left = c.loop-i-test.false in
-    let kept = c.loop-i.auto.i-end in
-    let all : c.loop-i.i ≡ length c.args.calls.now = omega arith in
-    let history : ℕ → List Event = λ n. events (length c.args.work.now) c.args.calls.now (vec_items c.loop-i.answers) n in
-    let runs = subst (λ n. Runs kind (g.N.Network.means c.args.net) (history n) c.loop-i.plan) all
-    (subst (λ n. Runs kind (g.N.Network.means n) (history c.loop-i.i) c.loop-i.plan) new.0 inv.3) in
+    let all : c.loop-call.call-index ≡ length c.args.calls.now = omega (arith, c.loop-call-test.false, c.loop-call.auto.call-index-end) in
+    let history : ℕ → List Event = λ n. events (length c.args.work.now) c.args.calls.now (vec_items c.loop-call.answers) n in
+    let runs = subst (λ n. Runs kind (g.N.Network.means c.args.net) (history n) c.loop-call.plan) all
+    (subst (λ n. Runs kind (g.N.Network.means n) (history c.loop-call.call-index) c.loop-call.plan) new.0 inv.runs) in
     record {
-      past = subst (λ n. drop (g.N.Network.means n).places c.loop-i.work ≡ drop (g.N.Network.means n).places c.args.work.now) new.0 inv.2;
+      past = subst (λ n. drop (g.N.Network.means n).places c.loop-call.work ≡ drop (g.N.Network.means n).places c.args.work.now) new.0 inv.past;
       refused = tt;
       ran = record {
-        holds = inv.0 ∙ new.0;
-        each = c.loop-i.answers.ok.0 ∙ inv.1;
+        holds = inv.net ∙ new.0;
+        each = inv.each ∙ all;
         runs = runs;
         lawful = lawful kind (g.N.Network.means c.args.net) runs.trace;
       };
