@@ -12,7 +12,8 @@ use Rattle.networks.specs.declared.refusal.Refusal.TheVariants.{LosingRing}
 use Rattle.plan.specs.declared.calls.Answer.{Answer}
 use Rattle.plan.specs.declared.calls.Answer.TheVariants.{Opened, Booked, Settled, Blocked, Sent, Ran, Refused}
 use Rattle.plan.specs.declared.calls.Call.{Call}
-use Rattle.plan.specs.declared.calls.Call.TheVariants.{Open, Book, Route as Route-call, Settle}
+use Rattle.plan.specs.declared.calls.Call.TheVariants.{Open, Book, Settle}
+use Rattle.plan.specs.declared.calls.Call.TheVariants as call
 use Rattle.plan.specs.declared.calls.Ending.{Ending}
 use Rattle.plan.specs.declared.calls.Ending.TheVariants as ending
 use Rattle.plan.specs.State.{State, rest, Event}
@@ -229,7 +230,7 @@ module _ {C R : Type 0} (K : Kind C R) (net : Net C) where
       (λ e. (Booked, _, book_accepted s from to amount e))
       (λ q. (Refused q.0, s, book_refused s from to amount q.0 q.1))
       (some_or (book_fault net s from to amount))
-  answers {h} {s} work t Route-call = ⊎_elim
+  answers {h} {s} work t call.Route = ⊎_elim
       (λ e. ⊎_elim
       (λ z. (Settled, s, route_settled s e z))
       (λ other. ⊎_elim

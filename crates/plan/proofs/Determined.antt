@@ -9,7 +9,8 @@ use Rattle.networks.specs.declared.refusal.Refusal.{Refusal}
 use Rattle.plan.specs.declared.calls.Answer.{Answer}
 use Rattle.plan.specs.declared.calls.Answer.TheVariants.{Blocked, Sent, Ran, Refused}
 use Rattle.plan.specs.declared.calls.Call.{Call}
-use Rattle.plan.specs.declared.calls.Call.TheVariants.{Route as Route-call, Settle}
+use Rattle.plan.specs.declared.calls.Call.TheVariants.{Settle}
+use Rattle.plan.specs.declared.calls.Call.TheVariants as call
 use Rattle.plan.specs.declared.calls.Ending.{Ending}
 use Rattle.plan.specs.declared.calls.Ending.TheVariants as ending
 use Rattle.plan.specs.State.{State, rest, Event}
@@ -117,7 +118,7 @@ module _ {C R : Type 0} (K : Kind C R) (net : Net C) where
         }) (stands_sound K net stands) v (p.0 v) (l, refl),
       )
 
-  falls : {h : List Event} {s s' : State} {work u t x : ℕ} → Trace K net h s → Rule K net work s Route-call (Sent u t x) s' → (1 ≤ x) × (owed s' net.places + x ≡ owed s net.places)
+  falls : {h : List Event} {s s' : State} {work u t x : ℕ} → Trace K net h s → Rule K net work s call.Route (Sent u t x) s' → (1 ≤ x) × (owed s' net.places + x ≡ owed s net.places)
   falls t (route_sent s s' u v x e z) =
       let stands = (is_good K net t (open_none s.open? _ e)).stands in
       (some K net stands z, sends_owed K net stands z)

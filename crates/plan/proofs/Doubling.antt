@@ -14,12 +14,6 @@ module _ {C R : Type 0} (K : Kind C R) (x : C) where
   abbrev pub Answers : ℕ → Option C → Type 0
   Answers n r = MatchOption r (heaviest < n * K.weighs x) (λ s. (K.value s ≡ times K.group n (K.value x)) × (K.weighs s ≤ n * K.weighs x))
 
-  pub fold_none : (n : ℕ) (s : C) → n ≡ 0 → K.value s ≡ K.group.zero → Fold n s
-  fold_none n s e z = record {
-    value = z ∙ ap (λ k. times K.group k (K.value x)) (sym e);
-    weight = omega (arith, K.zero_weighs s z);
-  }
-
   pub fold_sum : (m n : ℕ) (s t u : C) → Fold m s → Fold n t → K.value u ≡ K.group.plus (K.value s) (K.value t) → Fold (m + n) u
   fold_sum m n s t u p q e = record {
     value = e ∙ ap₂ K.group.plus p.value q.value ∙ sym (times_add K.group m n (K.value x));

@@ -106,17 +106,3 @@ module _ {C R : Type 0} (K : Kind C R) (net : Net C) where
       lowest = λ v l. (bounds v l).0;
       highest = λ v l. (bounds v l).1;
     }
-
-  -- what holds of an open plan lasts over every call
-  pub rule_stands : {s s' : State} {work : ℕ} {c : Call} {a : Answer} → Standing K net s → Rule K net work s c a s' → Standing K net s'
-  rule_stands stands (open_refused s r e) = stands
-  rule_stands stands (open_losing s e l) = stands
-  rule_stands stands (open_accepted s e n) = absurd (both_ways s.open? (open_shut K net s _ e) stands.opened)
-  rule_stands stands (book_refused s from to amount r e) = stands
-  rule_stands stands (book_accepted s from to amount e) = booked_stands from to amount (bookable net s from to amount e) stands
-  rule_stands stands (route_refused s r e) = stands
-  rule_stands stands (route_settled s e r) = stands
-  rule_stands stands (route_blocked s u e r) = stands
-  rule_stands stands (route_sent s s' u t x e r) = sends_stands K net stands r
-  rule_stands stands (settle_refused s budget r e) = stands
-  rule_stands stands (settle_ran s s' budget n z e l r ends) = repeats_stands K net stands r

@@ -95,9 +95,6 @@ module _ {C R : Type 0} (K : Kind C R) (net : Net C) (f : List ℕ) where
   pub one_least : {u v : ℕ} {c d : K.group.Carrier} → Least K net f u v c → Least K net f u v d → c ≡ d
   one_least p q = K.group.antisym _ _ (p.least _ _ q.taken.1) (q.least _ _ p.taken.1)
 
-  pub one_price : {v : ℕ} {c d : K.group.Carrier} → Price K net f v c → Price K net f v d → c ≡ d
-  one_price p q = K.group.antisym _ _ (p.least _ _ _ q.taken.2 q.taken.3) (q.least _ _ _ p.taken.2 p.taken.3)
-
 -- no ring of an open plan costs less than zero
 pub stands_sound : {C R : Type 0} (K : Kind C R) (net : Net C) {s : State} → Standing K net s → Losing K net s.loads → ⊥
 stands_sound K net {s} stands = no_losing K net s.loads stands.potential.0 stands.potential.1

@@ -7,7 +7,7 @@ use Rattle.networks.specs.declared.refusal.Refusal.TheVariants.{LosingRing}
 use Rattle.plan.specs.declared.calls.Answer.{Answer}
 use Rattle.plan.specs.declared.calls.Answer.TheVariants.{Opened, Booked, Settled, Blocked, Sent, Ran, Refused}
 use Rattle.plan.specs.declared.calls.Call.{Call}
-use Rattle.plan.specs.declared.calls.Call.TheVariants.{Open, Book, Route as Route-call, Settle}
+use Rattle.plan.specs.declared.calls.Call.TheVariants as call
 use Rattle.plan.specs.declared.calls.Ending.{Ending}
 use Rattle.plan.specs.declared.calls.Ending.TheVariants as ending
 use Rattle.plan.specs.declared.step.Step.{Step}
@@ -78,18 +78,18 @@ module _ {C R : Type 0} (K : Kind C R) (net : Net C) where
 
   -- the rule of each call, with a work table of so many entries
   pub data Rule (work : ℕ) : State → Call → Answer → State → Type 0 where
-    open_refused : (s : State) (r : Refusal) → open_fault K net s work ≡ Some r → Rule work s Open (Refused r) s
+    open_refused : (s : State) (r : Refusal) → open_fault K net s work ≡ Some r → Rule work s call.Open (Refused r) s
     open_losing : (s : State) → open_fault K net s work ≡ None → Losing K net (replicate (length net.ways) 0) →
-        Rule work s Open (Refused LosingRing) s
+        Rule work s call.Open (Refused LosingRing) s
     open_accepted : (s : State) → open_fault K net s work ≡ None → (Losing K net (replicate (length net.ways) 0) → ⊥) →
-        Rule work s Open Opened (record { open? = true; loads = replicate (length net.ways) 0; rests = replicate net.places (pos 0); count = 0 })
-    book_refused : (s : State) (from to amount : ℕ) (r : Refusal) → book_fault net s from to amount ≡ Some r → Rule work s (Book from to amount) (Refused r) s
+        Rule work s call.Open Opened (record { open? = true; loads = replicate (length net.ways) 0; rests = replicate net.places (pos 0); count = 0 })
+    book_refused : (s : State) (from to amount : ℕ) (r : Refusal) → book_fault net s from to amount ≡ Some r → Rule work s (call.Book from to amount) (Refused r) s
     book_accepted : (s : State) (from to amount : ℕ) → book_fault net s from to amount ≡ None →
-        Rule work s (Book from to amount) Booked (record { open? = s.open?; loads = s.loads; rests = move s.rests from to amount; count = s.count })
-    route_refused : (s : State) (r : Refusal) → route_fault net s work ≡ Some r → Rule work s Route-call (Refused r) s
-    route_settled : (s : State) → route_fault net s work ≡ None → AtRest s → Rule work s Route-call Settled s
-    route_blocked : (s : State) (u : ℕ) → route_fault net s work ≡ None → Stuck s u → Rule work s Route-call (Blocked u) s
-    route_sent : (s s' : State) (u t x : ℕ) → route_fault net s work ≡ None → Sends s u t x s' → Rule work s Route-call (Sent u t x) s'
-    settle_refused : (s : State) (budget : ℕ) (r : Refusal) → settle_fault net s budget work ≡ Some r → Rule work s (Settle budget) (Refused r) s
+        Rule work s (call.Book from to amount) Booked (record { open? = s.open?; loads = s.loads; rests = move s.rests from to amount; count = s.count })
+    route_refused : (s : State) (r : Refusal) → route_fault net s work ≡ Some r → Rule work s call.Route (Refused r) s
+    route_settled : (s : State) → route_fault net s work ≡ None → AtRest s → Rule work s call.Route Settled s
+    route_blocked : (s : State) (u : ℕ) → route_fault net s work ≡ None → Stuck s u → Rule work s call.Route (Blocked u) s
+    route_sent : (s s' : State) (u t x : ℕ) → route_fault net s work ≡ None → Sends s u t x s' → Rule work s call.Route (Sent u t x) s'
+    settle_refused : (s : State) (budget : ℕ) (r : Refusal) → settle_fault net s budget work ≡ Some r → Rule work s (call.Settle budget) (Refused r) s
     settle_ran : (s s' : State) (budget n : ℕ) (e : Ending) → settle_fault net s budget work ≡ None → n ≤ budget → Repeats n s s' → Ends budget n s' e →
-        Rule work s (Settle budget) (Ran n e) s'
+        Rule work s (call.Settle budget) (Ran n e) s'
