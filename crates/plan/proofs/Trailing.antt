@@ -163,11 +163,11 @@ module _ {C R : Type 0} (K : Kind C R) (net : Net C) (loads : List ℕ) where
 
     module _ (path : List Step) (i : ℕ) (at left : ℕ) (far : Far (on_path i path) at left) where
       -- one turn more
-      pub far_turn : i < length path → (ne : at ≢ from) (s : Step) → slice_get via at ≡ Some s → (u r m : ℕ) → (v : ℕ) × (c : K.group.Carrier) × Gives K net loads s u v c r → m ≡ min left r →
+      pub far_turn : i < length path → (ne : at ≢ from) (s : Step) → slice_get via at ≡ Some s → (u r m v : ℕ) (c : K.group.Carrier) → Gives K net loads s u v c r → m ≡ min left r →
           Far (on_path (i + 1) (set path i s)) u m
-      far_turn l ne s note u r m g is =
+      far_turn l ne s note u r m v c g is =
           subst (λ n. Far (on_path (i + 1) (set path i s)) u n) (sym is)
-          (subst (λ ss. Far ss u (min left r)) (sym (path_more path i s l)) (far_more (on_path i path) at left far ne s note u r g.0 g.1 g.2))
+          (subst (λ ss. Far ss u (min left r)) (sym (path_more path i s l)) (far_more (on_path i path) at left far ne s note u r v c g))
 
       pub far_ends : i < length path → at ≡ from → Trailed K net loads from to amount path y (record { len = i; amount = left })
       far_ends l is =

@@ -3,13 +3,12 @@ use Rattle.std.specs.Prelude.{◌≡◌, ℕ, ◌+◌, ◌-◌, ◌<◌, ◌≤�
 use Rattle.costs.specs.Kind.{Kind}
 use Rattle.networks.specs.Net.{Net}
 use Rattle.plan.specs.declared.back.Trail.{Trail}
-use Rattle.plan.specs.declared.leg.Leg.{Leg}
 use Rattle.plan.specs.declared.step.Step.{Step}
 use Rattle.plan.specs.declared.step.Step.TheVariants.{Ahead, Back}
 use Rattle.plan.specs.Entries.{Work, tables, front, entry}
 use Rattle.plan.specs.Searches.{Searched}
 use Rattle.plan.specs.Standing.{Inside}
-use Rattle.plan.specs.Steps.{Gives, Route}
+use Rattle.plan.specs.Steps.{Route}
 
 -- the first n steps of a path in the order of the route, which is the reverse
 abbrev pub on_path : ℕ → List Step → List Step
@@ -22,12 +21,6 @@ Bears x (Ahead k ∷ ss) f = (k < length f) × (slice_index f k + x ≤ 1000000)
 Bears x (Back k ∷ ss) f = (k < length f) × (x ≤ slice_index f k) × Bears x ss (slice_set f k (slice_index f k - x))
 
 module _ {C R : Type 0} (K : Kind C R) (net : Net C) (loads : List ℕ) where
-  -- the step begins there, with that room; none if it is not open
-  abbrev pub Begins : Step → Option Leg → Type 0
-  Begins s r =
-      MatchOption r ((u v : ℕ) (c : K.group.Carrier) (room : ℕ) → Gives K net loads s u v c room → ⊥)
-      (λ leg. (v : ℕ) × (c : K.group.Carrier) × Gives K net loads s leg.from v c leg.room)
-
   -- a search from `from` over all places ended, and t says that `to` can be reached at cost y
   pub record Ended (from to : ℕ) (t : Work R) (y : K.group.Carrier) : Type 0 where
     pub inside : Inside net

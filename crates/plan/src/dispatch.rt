@@ -1,11 +1,13 @@
-ghost use Rattle.std.specs.Prelude.{◌≡◌, ◌+◌, ◌<◌, min, pos, ◌+ℤ◌, ◌-ℤ◌, neg_ℤ, ◌≤ℤ◌, ◌<ℤ◌, vec_len};
+ghost use Rattle.std.specs.Prelude.{◌≡◌, ◌+◌, ◌<◌, min, pos, ◌+ℤ◌, ◌-ℤ◌, neg_ℤ, ◌≤ℤ◌, ◌<ℤ◌, None, vec_len};
+ghost use Rattle.plan.specs.Checks.{net_fault};
 ghost use Rattle.plan.specs.Rules.{most_counted};
 ghost use Rattle.plan.specs.Sendings.{Smaller, Asked, Moved, AsLong, Dispatched};
 ghost use Rattle.plan.specs.Tables.{MadeFor, state_of};
 
-use super::back::trace;
+use super::loaded::Loaded;
 use super::sending::send;
 use super::table::Table;
+use costs::Cost;
 use networks::Network;
 
 // The smaller of what one place has and what another wants.
@@ -63,22 +65,19 @@ impl Table {
 
     // Sends from `from` to `to` along the steps noted by a search, as much as they can bear and the rests ask for. That amount.
     pub(crate) fn dispatch<N: Network>(&mut self, net: &N, from: usize, to: usize) -> u32
+        requires fair { net_fault N.Cost.Cost.kind (N.Network.means net.now) ≡ None }
         requires made { MadeFor (N.Network.means net.now) self.old }
         requires places { (from < (N.Network.means net.now).places) × (to < (N.Network.means net.now).places) }
         ensures long { AsLong self.old self.new }
         ensures sent { Dispatched N.Cost.Cost.kind (N.Network.means net.now) self.old from to result (state_of self.new) }
     {
         let asked = self.asked(from, to);
-        let path = self.path.as_mut_slice();
-        let Some(trail) = trace(
+        let loaded = Loaded {
             net,
-            self.loads.as_slice(),
-            self.via.as_slice(),
-            path,
-            from,
-            to,
-            asked,
-        ) else {
+            loads: self.loads.as_slice(),
+        };
+        let path = self.path.as_mut_slice();
+        let Some(trail) = loaded.trace(self.via.as_slice(), path, from, to, asked) else {
             return 0;
         };
         send(

@@ -12,6 +12,7 @@ mod edges;
 mod front;
 mod laws;
 mod leg;
+mod loaded;
 mod marking;
 mod multiples;
 mod nearest;

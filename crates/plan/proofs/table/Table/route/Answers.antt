@@ -11,6 +11,7 @@ pub dispatch-amount-requires : goal.dispatch-amount-requires
 dispatch-amount-requires g c =
     let same = c.in-Some-nearest.ensures.same in
     record {
+      fair = c.requires.fair;
       made = record { loads = ap vec_len same.loads ∙ c.requires.made.loads; rests = ap vec_len same.rests ∙ c.requires.made.rests };
       places = (subst (λ n. c.in-Some.from < n) (c.as_slice.ensures.len ∙ c.requires.made.rests) c.in-Some.ensures.place, c.in-Some-nearest.ensures.place);
     }
