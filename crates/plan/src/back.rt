@@ -1,7 +1,8 @@
-ghost use Rattle.std.specs.Prelude.{◌≤◌, length};
+ghost use Rattle.std.specs.Prelude.{◌<◌, length, IfSome};
 ghost use Rattle.plan.specs.Trails.{Trails};
 
 use super::loaded::Loaded;
+use super::note::Note;
 use super::step::Step;
 use costs::Cost;
 use networks::Network;
@@ -14,35 +15,31 @@ pub(crate) struct Trail {
 }
 
 impl<'a, N: Network> Loaded<'a, N> {
-    // Follows the noted steps back from `to` to `from`, and puts them on the path. The amount is the smallest of `amount` and their rooms.
-    // None if they do not come to `from` before the path is full.
+    // Follows the noted steps back from `to` to a start, and puts them on the path. The amount is the smallest of `amount` and their rooms.
+    // None if they do not come to a start before the path is full.
     pub(crate) fn trace(
         &self,
-        via: &[Step],
+        notes: &[Note],
         path: &mut [Step],
-        from: usize,
         to: usize,
         amount: u32,
     ) -> Option<Trail>
-        ensures { Trails N.Cost.Cost.kind (N.Network.means self.now.net.now) self.now.loads.now via.now from to amount path.new result }
+        ensures fits { IfSome result (λ trail. trail.len < length path.new) }
+        ensures trails { Trails N.Cost.Cost.kind (N.Network.means self.now.net.now) self.now.loads.now notes.now to amount path.new result }
     {
         let mut at = to;
         let mut left = amount;
-        for i in 0..path.len() {
-            if at == from {
-                return Some(Trail {
-                    len: i,
-                    amount: left,
-                });
+        for (len, slot) in path.iter_mut().enumerate() {
+            match *notes.get(at)? {
+                Note::Unseen => return None,
+                Note::Start => return Some(Trail { len, amount: left }),
+                Note::Via(step) => {
+                    let leg = self.leg(step)?;
+                    *slot = step;
+                    left = left.min(leg.room);
+                    at = leg.from;
+                }
             }
-            if at >= via.len() {
-                return None;
-            }
-            let step = via[at];
-            let leg = self.leg(step)?;
-            path[i] = step;
-            left = left.min(leg.room);
-            at = leg.from;
         }
         None
     }

@@ -77,7 +77,7 @@ impl Table {
             loads: self.loads.as_slice(),
         };
         let path = self.path.as_mut_slice();
-        let Some(trail) = loaded.trace(self.via.as_slice(), path, from, to, asked) else {
+        let Some(trail) = loaded.trace(self.notes.as_slice(), path, to, asked) else {
             return 0;
         };
         send(

@@ -4,8 +4,9 @@ ghost use Rattle.plan.specs.Entries.{tables};
 ghost use Rattle.plan.specs.Nearest.{Nearest};
 ghost use Rattle.plan.specs.Tables.{Same, MadeFor, state_of};
 
-use super::front::distances;
+use super::loaded::Loaded;
 use super::pick::cheapest;
+use super::starts::Starts;
 use super::table::Table;
 use costs::Cost;
 use networks::Network;
@@ -26,18 +27,13 @@ impl Table {
         ensures past { drop (N.Network.means net.now).places work.new ≡ drop (N.Network.means net.now).places work.old }
         ensures place { IfSome result (λ v. v < (N.Network.means net.now).places) }
         ensures nearest { Nearest N.Cost.Cost.kind (N.Network.means net.now) (state_of self.old) from
-            (tables work.new self.new.seen.items self.new.via.items) result }
+            (tables work.new self.new.notes.items) result }
     {
-        let places = net.places();
-        distances(
+        let loaded = Loaded {
             net,
-            self.loads.as_slice(),
-            work,
-            self.seen.as_mut_slice(),
-            self.via.as_mut_slice(),
-            from,
-            places,
-        );
-        cheapest::<N::Cost>(self.rests.as_slice(), work, self.seen.as_slice())
+            loads: self.loads.as_slice(),
+        };
+        loaded.search(work, self.notes.as_mut_slice(), Starts::At(from));
+        cheapest::<N::Cost>(self.rests.as_slice(), work, self.notes.as_slice())
     }
 }

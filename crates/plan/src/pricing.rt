@@ -4,7 +4,8 @@ ghost use Rattle.plan.specs.Questions.{Priced};
 ghost use Rattle.plan.specs.Steps.{Losing};
 ghost use Rattle.plan.specs.Tables.{Same, MadeFor};
 
-use super::front::prices;
+use super::loaded::Loaded;
+use super::starts::Starts;
 use super::table::Table;
 use costs::Cost;
 use networks::Network;
@@ -26,15 +27,11 @@ impl Table {
             × Priced N.Cost.Cost.kind (N.Network.means net.now) self.old.loads.items rows.old rows.new)
             (Losing N.Cost.Cost.kind (N.Network.means net.now) self.old.loads.items) }
     {
-        let places = net.places();
-        prices(
+        let loaded = Loaded {
             net,
-            self.loads.as_slice(),
-            rows,
-            self.seen.as_mut_slice(),
-            self.via.as_mut_slice(),
-            places,
-        )
+            loads: self.loads.as_slice(),
+        };
+        loaded.search(rows, self.notes.as_mut_slice(), Starts::Everywhere)
     }
 
     // Whether some ring costs less than zero.

@@ -1,4 +1,4 @@
-use Rattle.std.proofs.Common.{◌<◌, vec_items, vec_len, refl, ap, ◌∙◌, subst}
+use Rattle.std.proofs.Common.{◌<◌, vec_len, refl, ap, ◌∙◌, subst}
 use Rattle.plan.specs.Picks.{Spent, Lowest}
 use Rattle.plan.specs.Tables.{state_of}
 use Rattle.plan.proofs.Routings.{source_by, rest_by, same_state, sent_by}
@@ -44,7 +44,7 @@ returns g c =
       long = record { loads = sent.long.loads ∙ ap vec_len near.same.loads; rests = sent.long.rests ∙ ap vec_len near.same.rests };
       past = near.past;
       routed = λ stands. sent_by g.N.Cost.Cost.kind (g.N.Network.means c.args.net.now) c.args.self.now c.nearest.new.self near.same c.in-Some.from c.in-Some-nearest.to c.dispatch-amount.result
-          c.nearest.new.work (vec_items c.nearest.new.self.seen) (state_of c.dispatch-amount.new.self)
+          c.nearest.new.work (state_of c.dispatch-amount.new.self)
           (source_by g.N.Cost.Cost.kind (g.N.Network.means c.args.net.now) (state_of c.args.self.now) stands.whole (subst (λ rs. Lowest rs c.in-Some.from) c.as_slice.ensures.value c.in-Some.ensures))
           near.nearest sent.sent stands;
     }
