@@ -1,5 +1,5 @@
 -- Tracing back, sending, moving the rests and counting make one route of the rules.
-use Rattle.std.proofs.Common.{◌≡◌, ℕ, ◌+◌, ◌≤◌, min, true, List, length, ℤ, vec_items, sym, subst, ap₂, arith}
+use Rattle.std.proofs.Common.{◌≡◌, ℕ, ◌+◌, min, true, List, ℤ, vec_items, sym, subst, ap₂, arith}
 use Rattle.std.proofs.lemmas.Int.{ints}
 use Rattle.costs.specs.Kind.{Kind}
 use Rattle.networks.specs.Net.{Net}
@@ -18,12 +18,12 @@ use Rattle.plan.proofs.Bearing.{route_bears}
 
 module _ {C R : Type 0} (K : Kind C R) (net : Net C) (s : State) (u v asked : ℕ) (path : List Step) (r : Trail) (loads' : List ℕ) (rests' : List ℤ) where
   pub sends_by : Asked s.rests u v asked → (y : K.group.Carrier) → Trailed K net s.loads u v asked path y r →
-      (r.len ≤ length path → Bears r.amount (on_path r.len path) s.loads → loads' ≡ along r.amount (on_path r.len path) s.loads) →
+      (Bears r.amount (on_path r.len path) s.loads → loads' ≡ along r.amount (on_path r.len path) s.loads) →
       Moved s.rests v u r.amount rests' → Standing K net s → Source K net s u → Target K net s u v y →
       Sends K net s u v r.amount (record { open? = s.open?; loads = loads'; rests = rests'; count = min (s.count + 1) most_counted })
   sends_by asks y trailed sent moved stands source target =
       let a = asks source.positive (stands.highest u source.place) target.negative in
-      let l = sent (omega (arith, trailed.fits)) (route_bears K net s.loads stands.passed stands.keeps trailed.route) in
+      let l = sent (route_bears K net s.loads stands.passed stands.keeps trailed.route) in
       let m = moved (stands.highest v target.place) (stands.lowest u source.place) in
       let few = trailed.asked in
       let had = a.had in
@@ -54,13 +54,13 @@ module _ {C R : Type 0} (K : Kind C R) (net : Net C) (t : Table) (u v asked : �
   where
     pub dispatched_by : Asked (vec_items t.rests) u v asked →
         ((rows : List R) (y : K.group.Carrier) → Ended K net f₁ u v (tables rows notes) y → Trailed K net f₁ u v asked path₁ y r) →
-        (r.len ≤ length path₂ → Bears r.amount (on_path r.len path₂) f₂ → f₃ ≡ along r.amount (on_path r.len path₂) f₂) →
+        (Bears r.amount (on_path r.len path₂) f₂ → f₃ ≡ along r.amount (on_path r.len path₂) f₂) →
         Moved (vec_items t.rests) v u r.amount rests₁ → n ≡ min (t.count + 1) most_counted →
         Dispatched K net t u v r.amount (record { open? = true; loads = f₄; rests = rests₁; count = n })
     dispatched_by asks trails sent moved counts rows y stands source target ended =
         let trailed = subst (λ f. Trailed K net f u v asked path₁ y r) is-f₁ (trails rows y (noted K net t u v f₁ notes is-f₁ is-notes rows y ended)) in
-        let sent₁ = subst (λ p. r.len ≤ length p → Bears r.amount (on_path r.len p) f₂ → f₃ ≡ along r.amount (on_path r.len p) f₂) is-path sent in
-        let sent₂ = subst (λ f. r.len ≤ length path₁ → Bears r.amount (on_path r.len path₁) f → f₃ ≡ along r.amount (on_path r.len path₁) f) is-f₂ sent₁ in
+        let sent₁ = subst (λ p. Bears r.amount (on_path r.len p) f₂ → f₃ ≡ along r.amount (on_path r.len p) f₂) is-path sent in
+        let sent₂ = subst (λ f. Bears r.amount (on_path r.len path₁) f → f₃ ≡ along r.amount (on_path r.len path₁) f) is-f₂ sent₁ in
         let after : record { open? = true; loads = f₃; rests = rests₁; count = min (t.count + 1) most_counted } ≡ record { open? = true; loads = f₄; rests = rests₁; count = n } =
         ap₂ (λ f k. record { open? = true; loads = f; rests = rests₁; count = k }) (sym is-f₄) (sym counts) in
         subst (λ z. Sends K net (state_of t) u v r.amount z) after (sends_by K net (state_of t) u v asked path₁ r f₃ rests₁ asks y trailed sent₂ moved stands source target)

@@ -14,11 +14,9 @@ use networks::Network;
 fn smaller(have: i64, want: i64) -> u32
     ensures { pos 0 <ℤ have → have ≤ℤ pos 1000000000 → want <ℤ pos 0 → Smaller have want result }
 {
-    let most = have.unsigned_abs().min(want.unsigned_abs());
-    if most > 1_000_000_000 {
-        return 0;
-    }
-    most as u32
+    have.unsigned_abs()
+        .min(want.unsigned_abs())
+        .min(1_000_000_000) as u32
 }
 
 // One route more. The number stays at the greatest that is counted.
@@ -82,8 +80,7 @@ impl Table {
         };
         send(
             self.loads.as_mut_slice(),
-            self.path.as_slice(),
-            trail.len,
+            &self.path.as_slice()[..trail.len],
             trail.amount,
         );
         self.move_rests(to, from, trail.amount);

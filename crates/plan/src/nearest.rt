@@ -1,8 +1,7 @@
 ghost use Rattle.std.specs.Prelude.{◌≡◌, ◌<◌, ◌≤◌, length, drop, IfSome, None, vec_len};
-ghost use Rattle.plan.specs.Checks.{net_fault};
 ghost use Rattle.plan.specs.Entries.{tables};
 ghost use Rattle.plan.specs.Nearest.{Nearest};
-ghost use Rattle.plan.specs.Tables.{Same, MadeFor, state_of};
+ghost use Rattle.plan.specs.Tables.{Ready, Same, state_of};
 
 use super::loaded::Loaded;
 use super::pick::cheapest;
@@ -19,9 +18,7 @@ impl Table {
         work: &mut [<N::Cost as Cost>::Row],
         from: usize,
     ) -> Option<usize>
-        requires fair { net_fault N.Cost.Cost.kind (N.Network.means net.now) ≡ None }
-        requires made { MadeFor (N.Network.means net.now) self.old }
-        requires work { (N.Network.means net.now).places ≤ length work.old }
+        requires ready { Ready N.Cost.Cost.kind (N.Network.means net.now) self.old (length work.old) }
         requires place { from < (N.Network.means net.now).places }
         ensures same { Same self.old self.new }
         ensures past { drop (N.Network.means net.now).places work.new ≡ drop (N.Network.means net.now).places work.old }

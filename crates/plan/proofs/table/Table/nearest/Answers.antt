@@ -14,9 +14,9 @@ returns g c =
     record {
       same = record { loads = refl; rests = refl; count = refl };
       past = c.search.ensures.past;
-      place = subst (λ m. IfSome c.cheapest.result (λ v. v < m)) (c.as_slice-2.ensures.len ∙ c.requires.made.rests) (within_by K _ _ _ c.cheapest.result c.cheapest.ensures);
+      place = subst (λ m. IfSome c.cheapest.result (λ v. v < m)) (c.as_slice-2.ensures.len ∙ c.requires.ready.made.rests) (within_by K _ _ _ c.cheapest.result c.cheapest.ensures);
       nearest = nearest_lent K (g.N.Network.means c.args.net.now) (state_of table) c.args.from c.requires.place _
           _ _ (tables c.search.new.rows c.search.new.notes) c.as_slice.ensures.value c.as_slice-2.ensures.value
-          (ap length (sym c.as_slice-2.ensures.value) ∙ c.as_slice-2.ensures.len ∙ c.requires.made.rests)
+          (ap length (sym c.as_slice-2.ensures.value) ∙ c.as_slice-2.ensures.len ∙ c.requires.ready.made.rests)
           (ap (tables c.search.new.rows) (sym notes)) c.cheapest.result c.search.result c.search.ensures.found _ c.as_slice-3.ensures.value c.cheapest.ensures;
     }

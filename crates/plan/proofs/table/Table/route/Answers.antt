@@ -5,7 +5,7 @@ use Rattle.plan.proofs.Routings.{source_by, rest_by, same_state, sent_by}
 use Rattle.plan.proofs.table.Table.route.Goals as goal
 
 pub nearest-requires : goal.nearest-requires
-nearest-requires g c = record { fair = c.requires.fair; made = c.requires.made; work = c.requires.work; place = subst (λ n. c.in-Some.from < n) (c.as_slice.ensures.len ∙ c.requires.made.rests) c.in-Some.ensures.place }
+nearest-requires g c = record { ready = c.requires; place = subst (λ n. c.in-Some.from < n) (c.as_slice.ensures.len ∙ c.requires.made.rests) c.in-Some.ensures.place }
 
 pub dispatch-amount-requires : goal.dispatch-amount-requires
 dispatch-amount-requires g c =
