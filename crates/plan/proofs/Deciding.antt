@@ -7,7 +7,7 @@ use Rattle.networks.specs.Net.{Net, Way}
 use Rattle.networks.specs.declared.refusal.Refusal.{Refusal}
 use Rattle.networks.specs.declared.refusal.Refusal.TheVariants.{BadPlaces, ManyWays, ShortTable}
 use Rattle.plan.specs.Checks.{or_else, when, fault_of_way, fault_of_ways, net_fault, open_fault}
-use Rattle.plan.specs.Entries.{Work, Fits, entry}
+use Rattle.plan.specs.Entries.{Work, entry}
 use Rattle.plan.specs.Searches.{Searched}
 use Rattle.plan.specs.Standing.{Fair, Passed}
 use Rattle.plan.specs.State.{closed}
@@ -57,11 +57,8 @@ module _ {C R : Type 0} (K : Kind C R) (net : Net C) where
       let d = ways_none 0 net.ways p.fair in
       simp (a, b, c, d)
 
-  pub fits : Passed K net → Fits K net.places net.ways
-  fits p k w e = let f = p.fair k w e in record { tail = f.tail; head = f.head; light = f.weight }
-
   module _ (f : List ℕ) (t : Work R) where
-    pub prices_of : Searched K net f (λ v. v < net.places) net.places t true → Prices K net f (λ v x. entry K t v ≡ Some x)
+    pub prices_of : Searched K net f (λ v. v < net.places) t true → Prices K net f (λ v x. entry K t v ≡ Some x)
     prices_of s = record {
       entries = record {
         one = λ v x y p q. (cc);
@@ -71,7 +68,7 @@ module _ {C R : Type 0} (K : Kind C R) (net : Net C) where
       walked = λ v y e. let r = s.reached v y e in (r.place, r.steps, r.met, r.begins, r.leads);
     }
 
-    pub decided : Passed K net → (still : Bool) → Searched K net f (λ v. v < net.places) net.places t still → MatchBool still (Losing K net f → ⊥) (Losing K net f)
+    pub decided : Passed K net → (still : Bool) → Searched K net f (λ v. v < net.places) t still → MatchBool still (Losing K net f → ⊥) (Losing K net f)
     decided p true s = prices_sound K net f (prices_of s) (inside K net p)
     decided p false s =
         let d = s.fell refl p.some in

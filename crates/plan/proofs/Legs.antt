@@ -1,65 +1,122 @@
--- Where a step begins and its room, from what the network answers of its way.
-use Rattle.std.proofs.Common.{◌≡◌, ℕ, zero, suc, ◌-◌, ◌<◌, ◌≤◌, List, [], ◌∷◌, length, get_or, Some, None, Option, sym, refl, subst, arith}
+-- The leg of a step, from what the network answers of its way and the load on that.
+use Rattle.std.proofs.Common.{◌≡◌, ℕ, ◌-◌, ◌<◌, ◌≤◌, Bool, true, false, ltb, List, length, get_or, Some, None, Option, refl, ap, ◌∙◌, sym, subst, arith}
 use Rattle.std.specs.List.{slice_get}
+use Rattle.std.specs.Bool.{then_some}
+use Rattle.std.proofs.lemmas.Bool.{ltb-true, ltb-false}
+use Rattle.std.proofs.lemmas.Option.{slice_get_within}
 use Rattle.costs.specs.Kind.{Kind}
 use Rattle.networks.specs.declared.ends.Ends.{Ends}
-use Rattle.networks.specs.Net.{Net, Way, ends_of}
+use Rattle.networks.specs.Net.{Net, Way, ends_of, cost_of}
+use Rattle.plan.specs.declared.leg.Leg.{Leg}
 use Rattle.plan.specs.declared.step.Step.{Step}
 use Rattle.plan.specs.declared.step.Step.TheVariants.{Ahead, Back}
+use Rattle.plan.specs.Legs.{IsShut, LegOf}
+use Rattle.plan.specs.Standing.{Passed}
 use Rattle.plan.specs.Steps.{Gives}
 use Rattle.plan.specs.Steps.Gives.{forth, behind}
-use Rattle.plan.proofs.Trying.{way_unknown, way_known, known_limit, forth_only, behind_only}
+use Rattle.plan.specs.Sweeps.{way_of}
 
-nth_below : {X : Type 0} (xs : List X) (k : ℕ) (x : X) → slice_get xs k ≡ Some x → k < length xs
-nth_below [] k x e = let z : ◌≡◌ {A = ℕ} 0 1 = cc in absurd (omega arith)
-nth_below (y ∷ xs) zero x e = omega arith
-nth_below (y ∷ xs) (suc k) x e = let l = nth_below xs k x e in omega arith
+way_known : {C : Type 0} (o : Option (Way C)) (e : Ends) (x : C) → Some e ≡ ends_of o → Some x ≡ cost_of o →
+    o ≡ Some (record { tail = e.tail; head = e.head; limit = e.limit; cost = x })
+way_known None e x p q = let z : ◌≡◌ {A = ℕ} 0 1 = cc in absurd (omega arith)
+way_known (Some w) e x p q =
+    let a : record { tail = w.tail; head = w.head; limit = w.limit } ≡ e = cc in
+    let b : w.cost ≡ x = cc in
+    ap (λ y. Some (record { tail = w.tail; head = w.head; limit = w.limit; cost = y })) b
+    ∙ ap (λ (y : Ends). Some (record { tail = y.tail; head = y.head; limit = y.limit; cost = x })) a
 
--- a way with those ends is there
-way_with : {C : Type 0} (o : Option (Way C)) (e : Ends) → Some e ≡ ends_of o → (x : C) × (o ≡ Some (record { tail = e.tail; head = e.head; limit = e.limit; cost = x }))
-way_with None e p = let z : ◌≡◌ {A = ℕ} 0 1 = cc in absurd (omega arith)
-way_with (Some w) e p = (w.cost, way_known (Some w) e w.cost p refl)
+no_ends : {C : Type 0} (o : Option (Way C)) (w : Way C) → None ≡ ends_of o → o ≡ Some w → ⊥
+no_ends None w p q = let z : ◌≡◌ {A = ℕ} 0 1 = cc in omega arith
+no_ends (Some x) w p q = let z : ◌≡◌ {A = ℕ} 0 1 = cc in omega arith
 
--- so its number is below theirs
-pub way_below : {C : Type 0} (net : Net C) (k : ℕ) (e : Ends) → Some e ≡ ends_of (slice_get net.ways k) → k < length net.ways
-way_below net k e some = nth_below net.ways k _ (way_with _ e some).1
+no_cost : {C : Type 0} (o : Option (Way C)) (w : Way C) → None ≡ cost_of o → o ≡ Some w → ⊥
+no_cost None w p q = let z : ◌≡◌ {A = ℕ} 0 1 = cc in omega arith
+no_cost (Some x) w p q = let z : ◌≡◌ {A = ℕ} 0 1 = cc in omega arith
 
-module _ {C R : Type 0} (K : Kind C R) (net : Net C) (loads : List ℕ) (k : ℕ) (s : Step) where
-  -- nowhere does the step lead
-  abbrev Shut : Type 0
-  Shut = (u v : ℕ) (c : K.group.Carrier) (r : ℕ) → Gives K net loads s u v c r → ⊥
+module _ {C R : Type 0} (K : Kind C R) (net : Net C) (loads : List ℕ) where
+  -- a step that leads somewhere goes along a way
+  pub gives_known : {s : Step} {u v : ℕ} {c : K.group.Carrier} {r : ℕ} → Gives K net loads s u v c r → (w : Way C) × (slice_get net.ways (way_of s) ≡ Some w)
+  gives_known (forth k w known space) = (w, known)
+  gives_known (behind k w known loaded) = (w, known)
 
-  -- it leads from u, with room r
-  abbrev Open : ℕ → ℕ → Type 0
-  Open u r = (v : ℕ) × (c : K.group.Carrier) × Gives K net loads s u v c r
+  module _ (k : ℕ) (s : Step) (along : k ≡ way_of s) where
+    same_way : {u v : ℕ} {c : K.group.Carrier} {r : ℕ} → Gives K net loads s u v c r → (w : Way C) × (slice_get net.ways k ≡ Some w)
+    same_way g = let w = gives_known g in (w.0, ap (slice_get net.ways) along ∙ w.1)
 
-  module _ (is : s ≡ Ahead k) where
-    pub no_forth : None ≡ ends_of (slice_get net.ways k) → Shut
-    no_forth none u v c r g = let f = forth_only K net loads k g is in way_unknown _ f.way none f.known
+    pub shut_unended : None ≡ ends_of (slice_get net.ways k) → IsShut K net loads s
+    shut_unended none u v c r g = let w = same_way g in no_ends _ w.0 none w.1
 
-    pub full_forth : (e : Ends) → Some e ≡ ends_of (slice_get net.ways k) → e.limit ≤ get_or loads k 0 → Shut
-    full_forth e some l u v c r g =
-        let f = forth_only K net loads k g is in
-        let same = known_limit _ f.way e f.known some in
-        omega (arith, f.space)
+    pub shut_uncosted : None ≡ cost_of (slice_get net.ways k) → IsShut K net loads s
+    shut_uncosted none u v c r g = let w = same_way g in no_cost _ w.0 none w.1
 
-    pub open_forth : (e : Ends) → Some e ≡ ends_of (slice_get net.ways k) → get_or loads k 0 < e.limit → Open e.tail (e.limit - get_or loads k 0)
-    open_forth e some l =
-        let w = way_with _ e some in
-        let way : Way C = record { tail = e.tail; head = e.head; limit = e.limit; cost = w.0 } in
-        let P : Step → Type 0 = λ x. (v : ℕ) × (c : K.group.Carrier) × Gives K net loads x e.tail v c (e.limit - get_or loads k 0) in
-        subst P (sym is) (e.head, K.value w.0, forth k way w.1 l)
+  -- the leg is that of the step, if it has room; and if it has none, the step is shut
+  pub record LegIf (s : Step) (leg : Leg C) : Type 0 where
+    pub leads : 0 < leg.room → Gives K net loads s leg.from leg.to (K.value leg.cost) leg.room
+    pub shut : leg.room ≤ 0 → IsShut K net loads s
 
-  module _ (is : s ≡ Back k) where
-    pub no_behind : None ≡ ends_of (slice_get net.ways k) → Shut
-    no_behind none u v c r g = let f = behind_only K net loads k g is in way_unknown _ f.way none f.known
+  module _ (k : ℕ) (w : Way C) (known : slice_get net.ways k ≡ Some w) where
+    ahead_space : {s : Step} {u v : ℕ} {c : K.group.Carrier} {r : ℕ} → Gives K net loads s u v c r → s ≡ Ahead k → get_or loads k 0 < w.limit
+    ahead_space (forth j w' known' space) e =
+        let q : j ≡ k = cc in
+        let there : slice_get net.ways k ≡ Some w' = subst (λ i. slice_get net.ways i ≡ Some w') q known' in
+        let same : w' ≡ w = cc in
+        subst (λ i. get_or loads i 0 < w.limit) q (subst (λ x. get_or loads j 0 < x.limit) same space)
+    ahead_space (behind j w' known' loaded) e = let z : ◌≡◌ {A = ℕ} 0 1 = cc in absurd (omega arith)
 
-    pub empty_behind : get_or loads k 0 ≡ 0 → Shut
-    empty_behind l u v c r g = omega (arith, (behind_only K net loads k g is).loaded)
+    back_loaded : {s : Step} {u v : ℕ} {c : K.group.Carrier} {r : ℕ} → Gives K net loads s u v c r → s ≡ Back k → 0 < get_or loads k 0
+    back_loaded (forth j w' known' space) e = let z : ◌≡◌ {A = ℕ} 0 1 = cc in absurd (omega arith)
+    back_loaded (behind j w' known' loaded) e = let q : j ≡ k = cc in subst (λ i. 0 < get_or loads i 0) q loaded
 
-    pub open_behind : (e : Ends) → Some e ≡ ends_of (slice_get net.ways k) → 0 < get_or loads k 0 → Open e.head (get_or loads k 0)
-    open_behind e some l =
-        let w = way_with _ e some in
-        let way : Way C = record { tail = e.tail; head = e.head; limit = e.limit; cost = w.0 } in
-        let P : Step → Type 0 = λ x. (v : ℕ) × (c : K.group.Carrier) × Gives K net loads x e.head v c (get_or loads k 0) in
-        subst P (sym is) (e.tail, K.group.opp (K.value w.0), behind k way w.1 l)
+    leg_ahead : (room : ℕ) → room ≡ w.limit - get_or loads k 0 → LegIf (Ahead k) (record { from = w.tail; to = w.head; cost = w.cost; room = room })
+    leg_ahead room is = record {
+      leads = λ l. subst (Gives K net loads (Ahead k) w.tail w.head (K.value w.cost)) (sym is) (forth k w known (omega arith));
+      shut = λ l u v c r g. let a = ahead_space g refl in omega arith;
+    }
+
+    -- the opposite of the cost of the way
+    leg_back : (x : C) → K.value x ≡ K.group.opp (K.value w.cost) → (room : ℕ) → room ≡ get_or loads k 0 →
+        LegIf (Back k) (record { from = w.head; to = w.tail; cost = x; room = room })
+    leg_back x opposite room is = record {
+      leads = λ l. subst (λ c. Gives K net loads (Back k) w.head w.tail c room) (sym opposite)
+          (subst (Gives K net loads (Back k) w.head w.tail (K.group.opp (K.value w.cost))) (sym is) (behind k w known (omega arith)));
+      shut = λ l u v c r g. let a = back_loaded g refl in omega arith;
+    }
+
+  -- from the answers about the way
+  module _ (k : ℕ) (e : Ends) (x : C) (ends : Some e ≡ ends_of (slice_get net.ways k)) (cost : Some x ≡ cost_of (slice_get net.ways k)) where
+    pub way_below : k < length net.ways
+    way_below = slice_get_within net.ways k _ (way_known _ e x ends cost)
+
+    module _ (s : Step) (along : k ≡ way_of s) (j : ℕ) where
+      pub ahead : (room : ℕ) → s ≡ Ahead j → room ≡ e.limit - get_or loads k 0 → LegIf s (record { from = e.tail; to = e.head; cost = x; room = room })
+      ahead room q is =
+          let i : j ≡ k = ap way_of (sym q) ∙ sym along in
+          let P : Step → Type 0 = λ z. LegIf z (record { from = e.tail; to = e.head; cost = x; room = room }) in
+          subst P (sym (q ∙ ap (λ m. Ahead m) i)) (leg_ahead k _ (way_known _ e x ends cost) room is)
+
+      pub back : (y : C) (room : ℕ) → s ≡ Back j → K.value y ≡ K.group.opp (K.value x) → room ≡ get_or loads k 0 → LegIf s (record { from = e.head; to = e.tail; cost = y; room = room })
+      back y room q opposite is =
+          let i : j ≡ k = ap way_of (sym q) ∙ sym along in
+          let P : Step → Type 0 = λ z. LegIf z (record { from = e.head; to = e.tail; cost = y; room = room }) in
+          subst P (sym (q ∙ ap (λ m. Back m) i)) (leg_back k _ (way_known _ e x ends cost) y opposite room is)
+
+  -- so it is the leg that is handed out if it has room
+  pub leg_some : {s : Step} {leg : Leg C} → LegIf s leg → (r : Option (Leg C)) → r ≡ then_some (ltb 0 leg.room) leg → LegOf K net loads s r
+  leg_some {s} {leg} h r e = subst (LegOf K net loads s) (sym e) (by (ltb 0 leg.room) refl)
+    where
+      by : (b : Bool) → ltb 0 leg.room ≡ b → LegOf K net loads s (then_some b leg)
+      by true q = h.leads (ltb-true 0 leg.room q)
+      by false q = h.shut (ltb-false 0 leg.room q)
+
+  module _ (passed : Passed K net) where
+    fair_costs : {s : Step} {u v : ℕ} {c : K.group.Carrier} {r : ℕ} → Gives K net loads s u v c r → (x : C) → K.value x ≡ c → (u < net.places) × (v < net.places) × (K.weighs x ≤ 1000000)
+    fair_costs (forth k w known space) x is =
+        let f = passed.fair k w known in
+        (f.tail, f.head, subst (λ y. K.weighs y ≤ 1000000) (sym (K.distinct x w.cost is)) f.weight)
+    fair_costs (behind k w known loaded) x is =
+        let f = passed.fair k w known in
+        (f.head, f.tail, subst (λ n. n ≤ 1000000) (sym (K.opposite_weighs w.cost x is)) f.weight)
+
+    -- a leg joins two places, and its cost is light
+    pub fair_leg : {s : Step} {leg : Leg C} → Gives K net loads s leg.from leg.to (K.value leg.cost) leg.room → (leg.from < net.places) × (leg.to < net.places) × (K.weighs leg.cost ≤ 1000000)
+    fair_leg {leg = leg} g = fair_costs g leg.cost refl

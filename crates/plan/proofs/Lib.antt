@@ -43,7 +43,6 @@ pub mod Starting
 pub mod Marked
 pub mod Reaching
 pub mod Searching
-pub mod Fronting
 pub mod Picking
 pub mod Deciding
 pub mod Opened

@@ -1,20 +1,19 @@
 -- Marks spread along steps and walks, and tell the reach of a place in the end.
-use Rattle.std.proofs.Common.{◌≡◌, ℕ, zero, suc, ◌+◌, ◌-◌, ◌<◌, ◌≤◌, Bool, true, false, ◌||◌, ◌≢◌, ◌⊎◌, List, [], ◌∷◌, ◌++◌, length, get_or, take, drop, set, replicate, Some, None, Option, sym, refl, ap, ◌∙◌, subst, inl, inr, ⊎_elim, arith}
-use borrow.Rule.Slice.PartMut.{post_of}
+use Rattle.std.proofs.Common.{◌≡◌, ℕ, zero, suc, ◌+◌, ◌<◌, ◌≤◌, Bool, true, false, ◌||◌, ◌≢◌, ◌⊎◌, List, [], ◌∷◌, ◌++◌, length, get_or, take, drop, set, replicate, Some, sym, refl, ap, ◌∙◌, subst, inl, inr, ⊎_elim, arith}
 use Rattle.std.specs.List.{slice_get, AllByRecursion}
-use Rattle.std.proofs.lemmas.List.{length-replicate}
+use Rattle.std.proofs.lemmas.List.{length-replicate, length-take-le}
+use Rattle.std.proofs.lemmas.Slice.{drop-append-drop}
 use Rattle.std.proofs.lemmas.Bool.{cases_eq, or_parts, false≢true}
 use Rattle.costs.specs.Kind.{Kind}
-use Rattle.networks.specs.declared.ends.Ends.{Ends}
-use Rattle.networks.specs.Net.{Net, Way, ends_of}
+use Rattle.networks.specs.Net.{Net}
 use Rattle.plan.specs.declared.step.Step.{Step}
 use Rattle.plan.specs.declared.step.Step.TheVariants.{Ahead, Back}
+use Rattle.plan.specs.Legs.{IsShut}
 use Rattle.plan.specs.Marks.{On, Extended, Led, Grown, Spread, Spreads, Tells}
 use Rattle.plan.specs.Questions.{Marked}
 use Rattle.plan.specs.Standing.{Inside}
 use Rattle.plan.specs.Steps.{Apart, Gives, Leads, there, then, Reach}
 use Rattle.plan.specs.Sweeps.{way_of}
-use Rattle.plan.proofs.Fronting.{front_length, past_after}
 use Rattle.plan.proofs.Noting.{nth_set_same, nth_set_other}
 use Rattle.plan.proofs.Trying.{along, gives_way}
 use Rattle.plan.proofs.Walking.{gives_room, leads_last}
@@ -49,13 +48,6 @@ extended u v m l k e = record {
   met = λ _. nth_set_same m v 1 k;
   same = λ e. absurd (false≢true (sym e));
 }
-
--- a way by its ends
-pub way_by : {C : Type 0} (o : Option (Way C)) (e : Ends) → Some e ≡ ends_of o → (x : C) × (o ≡ Some (record { tail = e.tail; head = e.head; limit = e.limit; cost = x }))
-way_by None e p = let z : ◌≡◌ {A = ℕ} 0 1 = cc in absurd (omega arith)
-way_by (Some w) e p =
-    let a : record { tail = w.tail; head = w.head; limit = w.limit } ≡ e = cc in
-    (w.cost, ap (λ (y : Ends). Some (record { tail = y.tail; head = y.head; limit = y.limit; cost = w.cost })) a)
 
 module _ {C R : Type 0} (K : Kind C R) (net : Net C) (loads : List ℕ) where
   -- one walk after another
@@ -134,6 +126,10 @@ module _ {C R : Type 0} (K : Kind C R) (net : Net C) (loads : List ℕ) where
         ⊎_elim (λ x. keeps q.grown v (p.met s u v c r g x on)) (λ x. q.met s u v c r g x (keeps p.grown u on)) d;
     same = λ e. let o = or_parts a b e in q.same o.1 ∙ p.same o.0;
   }
+
+  -- along a step that leads nowhere
+  pub by_none : {s : Step} (m : List ℕ) → IsShut K net loads s → Spread K net loads (λ s'. s' ≡ s) m m false
+  by_none m shut = spread_none m (λ s' u v c r g e. shut u v c r (subst (λ z. Gives K net loads z u v c r) e g))
 
   -- along one step
   pub by_step : {s : Step} {u v r : ℕ} {c : K.group.Carrier} {m m' : List ℕ} {told : Bool} → Gives K net loads s u v c r → Extended u v m m' told → Spread K net loads (λ s'. s' ≡ s) m m' told
@@ -252,16 +248,15 @@ module _ {C R : Type 0} (K : Kind C R) (net : Net C) (loads : List ℕ) where
             (cases_eq v u)
 
   -- marks of the first n entries of a longer table
-  pub marked_by : (u n : ℕ) (table m : List ℕ) → n ≡ net.places → net.places ≤ length table → length m ≡ length (take (n - 0) table) → Tells K net loads u m →
-      Marked K net loads u table (m ++ post_of 0 (n - 0) table)
+  pub marked_by : (u n : ℕ) (table m : List ℕ) → n ≡ net.places → net.places ≤ length table → length m ≡ length (take n table) → Tells K net loads u m →
+      Marked K net loads u table (m ++ drop n table)
   marked_by u n table m e long kept told =
-      let enough : n ≤ length table = omega (arith, e, long) in
-      let same : length m ≡ n = kept ∙ front_length table n enough in
+      let same : length m ≡ n = kept ∙ length-take-le n table (omega (arith, e, long)) in
       record {
         each = λ v l.
-            let at = nth_before m (post_of 0 (n - 0) table) v (omega (arith, l, e, same)) in
+            let at = nth_before m (drop n table) v (omega (arith, l, e, same)) in
             ⊎_elim (λ p. inl (p.0, at ∙ p.1)) (λ p. inr (p.0, at ∙ p.1)) (told v l);
-        past = subst (λ k. drop k (m ++ post_of 0 (n - 0) table) ≡ drop k table) e (past_after table n enough m kept);
+        past = drop-append-drop n table m net.places (omega (arith, e)) same;
       }
     where
       nth_before : (xs ys : List ℕ) (v : ℕ) → v < length xs → slice_get (xs ++ ys) v ≡ slice_get xs v

@@ -1,11 +1,12 @@
 -- A search from the source of an open plan ends, and shows the next target.
-use Rattle.std.proofs.Common.{◌≡◌, ℕ, zero, suc, ◌<◌, Bool, true, false, cond, List, [], ◌∷◌, length, take, ℤ, IfSome, Some, None, Option, sym, refl, ap, ◌∙◌, subst, ap₂, arith, get_or-take}
+use Rattle.std.proofs.Common.{◌≡◌, ℕ, zero, suc, ◌<◌, Bool, true, false, cond, List, [], ◌∷◌, length, take, ℤ, IfSome, Some, None, Option, sym, refl, ap, get_or, ◌∙◌, subst, ap₂, arith}
 use Rattle.std.specs.List.{slice_get}
 use Rattle.std.specs.Option.{option_map}
 use Rattle.costs.specs.Kind.{Kind, values}
 use Rattle.networks.specs.Net.{Net}
-use Rattle.plan.specs.declared.step.Step.{Step}
-use Rattle.plan.specs.Entries.{Work, tables, front, entry}
+use Rattle.plan.specs.declared.note.Note.{Note}
+use Rattle.plan.specs.declared.note.Note.TheVariants.{Unseen}
+use Rattle.plan.specs.Entries.{Work, is_seen, tables, front, entry}
 use Rattle.plan.specs.Nearest.{Nearest}
 use Rattle.plan.specs.Picks.{Picked}
 use Rattle.plan.specs.Searches.{Searched}
@@ -25,7 +26,7 @@ nth_front (suc n) (x ∷ xs) (suc v) l = nth_front n xs v (omega arith)
 
 -- the first n places have the same entries
 entry_front : {C R : Type 0} (K : Kind C R) (n : ℕ) (t : Work R) (v : ℕ) → v < n → entry K (front n t) v ≡ entry K t v
-entry_front K n t v l = ap₂ (λ b o. cond b (option_map (values K) o) None) (get_or-take n t.seen v false l) (nth_front n t.rows v l)
+entry_front K n t v l = ap (λ o. cond (is_seen (get_or t.notes v Unseen)) (option_map (values K) o) None) (nth_front n t.rows v l)
 
 -- what is picked is among the places
 pub within_by : {C R : Type 0} (K : Kind C R) (rests : List ℤ) (t : Work R) (n : ℕ) (r : Option ℕ) → Picked K rests t n r → IfSome r (λ v. v < n)
@@ -37,7 +38,7 @@ module _ {C R : Type 0} (K : Kind C R) (net : Net C) {s : State} (stands : Stand
   sound = no_losing K net s.loads stands.potential.0 stands.potential.1
 
   -- the search ends
-  ended : (t : Work R) (still : Bool) → Searched K net s.loads (λ v. v ≡ u) net.places t still → Searched K net s.loads (λ v. v ≡ u) net.places t true
+  ended : (t : Work R) (still : Bool) → Searched K net s.loads (λ v. v ≡ u) t still → Searched K net s.loads (λ v. v ≡ u) t true
   ended t true h = h
   ended t false h =
       let d = h.fell refl stands.passed.some in
@@ -46,7 +47,7 @@ module _ {C R : Type 0} (K : Kind C R) (net : Net C) {s : State} (stands : Stand
       (λ rs ws c l w m. d.below r.place rs ws c r.begins w l m)))
 
 module _ {C R : Type 0} (K : Kind C R) (net : Net C) (s : State) (u : ℕ) (place : u < net.places) (t : Work R) where
-  pub nearest_by : (r : Option ℕ) (still : Bool) → Searched K net s.loads (λ v. v ≡ u) net.places (front net.places t) still →
+  pub nearest_by : (r : Option ℕ) (still : Bool) → Searched K net s.loads (λ v. v ≡ u) (front net.places t) still →
       Picked K s.rests t net.places r → Nearest K net s u t r
   nearest_by None still h picked = λ stands source.
       let found = distances_by K net s.loads (ended K net stands place _ still h) in
@@ -62,16 +63,14 @@ module _ {C R : Type 0} (K : Kind C R) (net : Net C) (s : State) (u : ℕ) (plac
         record { inside = inside K net stands.passed; searched = all; is = at },
       )
 
-  -- the same where the tables were lent: n, and the loads, rests and marks that were seen, are those
-  pub nearest_lent : (n : ℕ) (loads : List ℕ) (rests : List ℤ) (seen : List Bool) (t' : Work R) → n ≡ net.places → loads ≡ s.loads → rests ≡ s.rests →
-      length s.rests ≡ net.places → seen ≡ t.seen → t' ≡ t → (r : Option ℕ) (still : Bool) → Searched K net loads (λ v. v ≡ u) n (front n t') still →
-      ((via : List Step) → Picked K rests (tables t'.rows seen via) (length rests) r) → Nearest K net s u t r
-  nearest_lent n loads rests seen t' e l p whole q same r still h picked =
-      let h₁ = subst (λ m. Searched K net loads (λ v. v ≡ u) m (front m t') still) e h in
-      let h₂ = subst (λ f. Searched K net f (λ v. v ≡ u) net.places (front net.places t') still) l h₁ in
-      let h₃ = subst (λ z. Searched K net s.loads (λ v. v ≡ u) net.places (front net.places z) still) same h₂ in
-      let p₁ : Picked K s.rests (tables t'.rows seen t.via) (length s.rests) r = subst (λ rs. Picked K rs (tables t'.rows seen t.via) (length rs) r) p (picked t.via) in
-      let p₂ = subst (λ m. Picked K s.rests (tables t'.rows seen t.via) m r) whole p₁ in
-      let p₃ : Picked K s.rests t net.places r =
-      subst (λ z. Picked K s.rests z net.places r) (ap₂ (λ x y. tables x y t.via) (ap (λ z. z.rows) same) q) p₂ in
-      nearest_by r still h₃ p₃
+  -- the same where the loads, rests and notes were lent
+  pub nearest_lent : (loads : List ℕ) (rests : List ℤ) (t' : Work R) → loads ≡ s.loads → rests ≡ s.rests →
+      length s.rests ≡ net.places → t' ≡ t → (r : Option ℕ) (still : Bool) → Searched K net loads (λ v. v ≡ u) (front net.places t') still →
+      (notes : List Note) → notes ≡ t.notes → Picked K rests (tables t'.rows notes) (length rests) r → Nearest K net s u t r
+  nearest_lent loads rests t' l p whole same r still h notes q picked =
+      let h₁ = subst (λ f. Searched K net f (λ v. v ≡ u) (front net.places t') still) l h in
+      let h₂ = subst (λ z. Searched K net s.loads (λ v. v ≡ u) (front net.places z) still) same h₁ in
+      let p₁ : Picked K s.rests (tables t'.rows notes) (length s.rests) r = subst (λ rs. Picked K rs (tables t'.rows notes) (length rs) r) p picked in
+      let p₂ = subst (λ m. Picked K s.rests (tables t'.rows notes) m r) whole p₁ in
+      let p₃ : Picked K s.rests t net.places r = subst (λ z. Picked K s.rests z net.places r) (ap₂ tables (ap (λ z. z.rows) same) q) p₂ in
+      nearest_by r still h₂ p₃

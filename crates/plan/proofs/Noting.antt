@@ -5,8 +5,9 @@ use Rattle.std.specs.Option.{option_map}
 use Rattle.std.proofs.lemmas.List.{get_or-set_same, get_or-set_other}
 use Rattle.std.proofs.lemmas.Option.{slice_get_read, slice_get_past}
 use Rattle.std.proofs.lemmas.Bool.{cases_lt}
+use Rattle.plan.specs.declared.note.Note.TheVariants.{Unseen, Via}
 use Rattle.plan.specs.declared.step.Step.{Step}
-use Rattle.plan.specs.Entries.{Work, Holds, noted, write}
+use Rattle.plan.specs.Entries.{Work, Holds, is_seen, noted, write}
 
 pub nth_set_same : {X : Type 0} (xs : List X) (i : ℕ) (y : X) → i < length xs → slice_get (set xs i y) i ≡ Some y
 nth_set_same [] i y l = absurd (omega arith)
@@ -21,19 +22,19 @@ nth_set_other (x ∷ xs) (suc i) zero y ne = refl
 nth_set_other (x ∷ xs) (suc i) (suc j) y ne = nth_set_other xs i j y (λ e. ne (ap suc e))
 
 module _ {R A : Type 0} (f : R → A) (t : Work R) where
-  pub noted_read : (v : ℕ) (r : R) → v < length t.rows → r ≡ get_or t.rows v r → noted f t v ≡ cond (get_or t.seen v false) (Some (f r)) None
-  noted_read v r l e = ap (λ o. cond (get_or t.seen v false) (option_map f o) None) (slice_get_read t.rows (length t.rows) v r refl l e)
+  pub noted_read : (v : ℕ) (r : R) → v < length t.rows → r ≡ get_or t.rows v r → noted f t v ≡ cond (is_seen (get_or t.notes v Unseen)) (Some (f r)) None
+  noted_read v r l e = ap (λ o. cond (is_seen (get_or t.notes v Unseen)) (option_map f o) None) (slice_get_read t.rows (length t.rows) v r refl l e)
 
-  pub noted_unseen : (v : ℕ) → get_or t.seen v false ≡ false → noted f t v ≡ None
+  pub noted_unseen : (v : ℕ) → is_seen (get_or t.notes v Unseen) ≡ false → noted f t v ≡ None
   noted_unseen v m = ap (λ b. cond b (option_map f (slice_get t.rows v)) None) m
 
   pub noted_same : (v : ℕ) (r : R) (s : Step) → Holds t v → noted f (write t v r s) v ≡ Some (f r)
   noted_same v r s h =
-      ap₂ (λ m o. cond m (option_map f o) None) (get_or-set_same t.seen v true false h.seen) (nth_set_same t.rows v r h.rows)
+      ap₂ (λ m o. cond (is_seen m) (option_map f o) None) (get_or-set_same t.notes v (Via s) Unseen h.notes) (nth_set_same t.rows v r h.rows)
 
   pub noted_other : (v w : ℕ) (r : R) (s : Step) → w ≢ v → noted f (write t v r s) w ≡ noted f t w
   noted_other v w r s ne =
-      ap₂ (λ m o. cond m (option_map f o) None) (get_or-set_other t.seen v w true false ne) (nth_set_other t.rows v w r ne)
+      ap₂ (λ m o. cond (is_seen m) (option_map f o) None) (get_or-set_other t.notes v w (Via s) Unseen ne) (nth_set_other t.rows v w r ne)
 
   nothing : (b : Bool) (x : A) → cond b None None ≡ Some x → ⊥
   nothing true x e = let z : ◌≡◌ {A = ℕ} 0 1 = cc in omega arith
@@ -43,5 +44,5 @@ module _ {R A : Type 0} (f : R → A) (t : Work R) where
   pub noted_within : (v : ℕ) (x : A) → noted f t v ≡ Some x → v < length t.rows
   noted_within v x e =
       ⊎_elim (λ l. l)
-      (λ (h : length t.rows ≤ v). absurd (nothing (get_or t.seen v false) x (sym (ap (λ o. cond (get_or t.seen v false) (option_map f o) None) (slice_get_past t.rows v h)) ∙ e)))
+      (λ (h : length t.rows ≤ v). absurd (nothing (is_seen (get_or t.notes v Unseen)) x (sym (ap (λ o. cond (is_seen (get_or t.notes v Unseen)) (option_map f o) None) (slice_get_past t.rows v h)) ∙ e)))
       (cases_lt v (length t.rows))

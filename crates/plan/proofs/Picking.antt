@@ -1,14 +1,16 @@
 -- One place more changes the pick if it wants something and is cheaper.
-use Rattle.std.proofs.Common.{◌≡◌, ℕ, zero, suc, ◌+◌, ◌<◌, Bool, true, false, cond, ◌⊎◌, List, [], ◌∷◌, length, get_or, ℤ, pos, ◌≤ℤ◌, ◌<ℤ◌, Some, None, Option, Ordering, sym, refl, ap, ◌∙◌, subst, inl, inr, ⊎_elim, arith}
+use Rattle.std.proofs.Common.{◌≡◌, ℕ, zero, suc, ◌+◌, ◌<◌, Bool, true, false, cond, ◌⊎◌, List, [], ◌∷◌, length, get_or, ℤ, pos, ◌≤ℤ◌, ◌<ℤ◌, Some, None, MatchBool, Option, Ordering, sym, refl, ap, ◌∙◌, subst, inl, inr, ⊎_elim, arith}
 use Rattle.std.specs.List.{slice_get}
+use Rattle.std.specs.Ordering.{is_lt}
 use Rattle.std.specs.Option.{option_map}
 use Rattle.std.proofs.lemmas.Bool.{cases_lt}
 use Rattle.std.proofs.lemmas.Option.{slice_get_read}
 use Rattle.std.proofs.lemmas.Int.{ints}
 use Rattle.costs.specs.Group.{Below}
 use Rattle.costs.specs.Kind.{Kind, values, Compares}
-use Rattle.plan.specs.declared.step.Step.{Step}
-use Rattle.plan.specs.Entries.{Work, tables}
+use Rattle.plan.specs.declared.note.Note.{Note}
+use Rattle.plan.specs.declared.note.Note.TheVariants.{Unseen}
+use Rattle.plan.specs.Entries.{Work, is_seen, tables}
 use Rattle.plan.specs.Picks.{Wants, NoneWants, Cheapest, Picked}
 
 -- a number below n + 1 is below n, or n
@@ -25,23 +27,23 @@ some_value K [] v l = absurd (omega arith)
 some_value K (r ∷ rows) zero l = (values K r, refl)
 some_value K (r ∷ rows) (suc v) l = some_value K rows v (omega arith)
 
-module _ {C R : Type 0} (K : Kind C R) (rests : List ℤ) (rows : List R) (seen : List Bool) (via : List Step) (v : ℕ) where
+module _ {C R : Type 0} (K : Kind C R) (rests : List ℤ) (rows : List R) (notes : List Note) (v : ℕ) where
   abbrev Tables : Work R
-  Tables = tables rows seen via
+  Tables = tables rows notes
 
-  pub wants_by : (x : K.group.Carrier) → get_or rests v (pos 0) <ℤ pos 0 → get_or seen v false ≡ true → option_map (values K) (slice_get rows v) ≡ Some x → Wants K rests Tables v x
+  pub wants_by : (x : K.group.Carrier) → get_or rests v (pos 0) <ℤ pos 0 → is_seen (get_or notes v Unseen) ≡ true → option_map (values K) (slice_get rows v) ≡ Some x → Wants K rests Tables v x
   wants_by x n s e = record { negative = n; is = ap (λ b. cond b (option_map (values K) (slice_get rows v)) None) s ∙ e }
 
   pub has_rest : (x : K.group.Carrier) → pos 0 ≤ℤ get_or rests v (pos 0) → Wants K rests Tables v x → ⊥
   has_rest x h w = let n = w.negative in omega (arith, ints)
 
-  pub not_seen : (x : K.group.Carrier) → get_or seen v false ≡ false → Wants K rests Tables v x → ⊥
+  pub not_seen : (x : K.group.Carrier) → is_seen (get_or notes v Unseen) ≡ false → Wants K rests Tables v x → ⊥
   not_seen x s w =
       let e : None ≡ Some x = sym (ap (λ b. cond b (option_map (values K) (slice_get rows v)) None) s) ∙ w.is in
       let z : ◌≡◌ {A = ℕ} 0 1 = cc in omega arith
 
   pub wanted_value : (x : K.group.Carrier) → Wants K rests Tables v x → option_map (values K) (slice_get rows v) ≡ Some x
-  wanted_value x w = by_mark (get_or seen v false) w.is
+  wanted_value x w = by_mark (is_seen (get_or notes v Unseen)) w.is
     where
       by_mark : (b : Bool) → cond b (option_map (values K) (slice_get rows v)) None ≡ Some x → option_map (values K) (slice_get rows v) ≡ Some x
       by_mark true h = h
@@ -103,8 +105,16 @@ module _ {C R : Type 0} (K : Kind C R) (rows : List R) (v : ℕ) (r : R) (c : C)
       let b : values K r ≡ x = cc in
       ap K.value q ∙ b
 
--- a comparison that does not say less says that the other is at most as much
-pub at_most : {C R : Type 0} (K : Kind C R) (a b : C) (o : Ordering) → Compares K a b o → (o ≡ Ordering.Less → ⊥) → K.group.le (K.value b) (K.value a)
-at_most K a b Ordering.Less h never = absurd (never refl)
-at_most K a b Ordering.Equal h never = subst (λ z. K.group.le (K.value z) (K.value a)) h (K.group.refl_le (K.value a))
-at_most K a b Ordering.Greater h never = h.0
+-- what a comparison says, as a test
+by_order : {C R : Type 0} (K : Kind C R) (a b : C) (o : Ordering) → Compares K a b o → MatchBool (is_lt o) (Below K.group (K.value a) (K.value b)) (K.group.le (K.value b) (K.value a))
+by_order K a b Ordering.Less h = h
+by_order K a b Ordering.Equal h = subst (λ z. K.group.le (K.value z) (K.value a)) h (K.group.refl_le (K.value a))
+by_order K a b Ordering.Greater h = h.0
+
+-- so does the test of two costs that stand for x and y
+pub by_test : {C R : Type 0} (K : Kind C R) (a b : C) (o : Ordering) → Compares K a b o → (r : Bool) → r ≡ is_lt o → (x y : K.group.Carrier) → K.value a ≡ x → K.value b ≡ y →
+    MatchBool r (Below K.group x y) (K.group.le y x)
+by_test K a b o h r e x y p q =
+    subst (λ s. MatchBool s (Below K.group x y) (K.group.le y x)) (sym e)
+    (subst (λ z. MatchBool (is_lt o) (Below K.group z y) (K.group.le y z)) p
+    (subst (λ z. MatchBool (is_lt o) (Below K.group (K.value a) z) (K.group.le z (K.value a))) q (by_order K a b o h)))

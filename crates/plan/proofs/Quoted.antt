@@ -26,22 +26,21 @@ row_of K false o x e = absurd (none_some x e)
     none_some x q = let z : ◌≡◌ {A = ℕ} 0 1 = cc in omega arith
 
 module _ {C R : Type 0} (K : Kind C R) (net : Net C) (f : List ℕ) (t : Work R) where
-  priced : (Losing K net f → ⊥) → Searched K net f (λ v. v < net.places) net.places (front net.places t) true → (v : ℕ) → v < net.places →
+  priced : (Losing K net f → ⊥) → Searched K net f (λ v. v < net.places) (front net.places t) true → (v : ℕ) → v < net.places →
       (r : R) × (slice_get t.rows v ≡ Some r) × Price K net f v (values K r)
   priced sound s v l =
       let m = s.begun v l in
       let r = row_of K _ _ m.value m.is in
       (r.0, sym (nth_front net.places t.rows v l) ∙ r.1, subst (Price K net f v) r.2 (price_by K net f (prices_of K net f (front net.places t) s) sound v m.value m.is))
 
-  -- over n places and loads f' that are those
-  pub quoted_by : (n : ℕ) (f' : List ℕ) (rows : List R) → n ≡ net.places → f' ≡ f → net_fault K net ≡ None → (still : Bool) → Searched K net f' (λ v. v < n) n (front n t) still →
+  -- over loads f' that are those
+  pub quoted_by : (f' : List ℕ) (rows : List R) → f' ≡ f → net_fault K net ≡ None → (still : Bool) → Searched K net f' (λ v. v < net.places) (front net.places t) still →
       drop net.places t.rows ≡ drop net.places rows → MatchBool still ((Losing K net f → ⊥) × Priced K net f rows t.rows) (Losing K net f)
-  quoted_by n f' rows e q fair still s past =
-      let s₁ = subst (λ m. Searched K net f' (λ v. v < m) m (front m t) still) e s in
-      let s₂ = subst (λ g. Searched K net g (λ v. v < net.places) net.places (front net.places t) still) q s₁ in
-      told still s₂ (decided K net f (front net.places t) (passed K net fair) still s₂)
+  quoted_by f' rows q fair still s past =
+      let s₁ = subst (λ g. Searched K net g (λ v. v < net.places) (front net.places t) still) q s in
+      told still s₁ (decided K net f (front net.places t) (passed K net fair) still s₁)
     where
-      told : (b : Bool) → Searched K net f (λ v. v < net.places) net.places (front net.places t) b → MatchBool b (Losing K net f → ⊥) (Losing K net f) →
+      told : (b : Bool) → Searched K net f (λ v. v < net.places) (front net.places t) b → MatchBool b (Losing K net f → ⊥) (Losing K net f) →
           MatchBool b ((Losing K net f → ⊥) × Priced K net f rows t.rows) (Losing K net f)
       told true s h = (h, record { each = priced h s; past = past })
       told false s h = h

@@ -2,25 +2,23 @@
 use Rattle.std.proofs.Common.{◌≡◌, ℕ, ◌<◌, Bool, true, false, cond, length, get_or, Some, None, sym, ap, ◌∙◌, subst, arith}
 use Rattle.costs.specs.Group.{Below}
 use Rattle.costs.specs.Kind.{Kind, values, weights}
+use Rattle.plan.specs.declared.note.Note.TheVariants.{Unseen}
 use Rattle.plan.specs.declared.step.Step.{Step}
-use Rattle.plan.specs.Entries.{Work, Level, Holds, Most, Better, noted, write, entry}
+use Rattle.plan.specs.Entries.{Work, Holds, Most, Better, is_seen, noted, write, entry}
 use Rattle.plan.specs.Sweeps.{Swept, One}
 use Rattle.plan.proofs.Noting.{noted_read, noted_unseen}
 use Rattle.plan.proofs.Sweeping.{swept_none, swept_one}
 
--- what a place gives whose mark and row were read
-pub read_at : {R A : Type 0} (f : R → A) (t : Work R) (v : ℕ) (r : R) → v < length t.rows → r ≡ get_or t.rows v r → get_or t.seen v false ≡ true → noted f t v ≡ Some (f r)
+-- what a place gives that was come to, and whose row was read
+pub read_at : {R A : Type 0} (f : R → A) (t : Work R) (v : ℕ) (r : R) → v < length t.rows → r ≡ get_or t.rows v r → is_seen (get_or t.notes v Unseen) ≡ true → noted f t v ≡ Some (f r)
 read_at f t v r l e m = noted_read f t v r l e ∙ ap (λ b. cond b (Some (f r)) None) m
-
-pub level_holds : {R : Type 0} (t : Work R) (v : ℕ) → Level t → v < length t.rows → Holds t v
-level_holds t v level l = record { rows = l; seen = omega (arith, level.seen); via = omega (arith, level.via) }
 
 module _ {C R : Type 0} (K : Kind C R) (t : Work R) (s : Step) (u v : ℕ) (cost : C) where
   abbrev Done : Bool → Work R → Type 0
   Done b t' = Swept K (One K s u v (K.value cost)) (One K s u v (K.value cost)) (K.weighs cost) t t' b
 
   -- there is nothing to go on from
-  pub unseen : get_or t.seen u false ≡ false → Done false t
+  pub unseen : is_seen (get_or t.notes u Unseen) ≡ false → Done false t
   unseen m =
       swept_none K (K.weighs cost) t
       (λ s' u' v' c' x d e.

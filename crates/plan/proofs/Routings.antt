@@ -1,5 +1,5 @@
 -- The picks and the search of one route give what the rules ask for.
-use Rattle.std.proofs.Common.{◌≡◌, ℕ, ◌<◌, Bool, true, List, length, Some, vec_items, sym, ap, ◌∙◌, subst, ap₂}
+use Rattle.std.proofs.Common.{◌≡◌, ℕ, ◌<◌, true, List, length, Some, vec_items, sym, ap, ◌∙◌, subst, ap₂}
 use Rattle.costs.specs.Kind.{Kind}
 use Rattle.networks.specs.Net.{Net}
 use Rattle.plan.specs.declared.table.Table.{Table}
@@ -34,12 +34,12 @@ same_state t t' same =
     ∙ ap (λ n. record { open? = true; loads = vec_items t.loads; rests = vec_items t.rests; count = n }) same.count
 
 -- what the search found is sent
-module _ {C R : Type 0} (K : Kind C R) (net : Net C) (t t₁ : Table) (same : Same t t₁) (u v x : ℕ) (rows : List R) (seen : List Bool) (s' : State) where
-  pub sent_by : Source K net (state_of t) u → Nearest K net (state_of t) u (tables rows seen (vec_items t₁.via)) (Some v) → Dispatched K net t₁ u v x s' →
+module _ {C R : Type 0} (K : Kind C R) (net : Net C) (t t₁ : Table) (same : Same t t₁) (u v x : ℕ) (rows : List R) (s' : State) where
+  pub sent_by : Source K net (state_of t) u → Nearest K net (state_of t) u (tables rows (vec_items t₁.notes)) (Some v) → Dispatched K net t₁ u v x s' →
       Standing K net (state_of t) → Sends K net (state_of t) u v x s'
   sent_by source near dispatched stands =
       let e = same_state t t₁ same in
       let n = near stands in
       subst (λ s. Sends K net s u v x s') e
-      (dispatched rows seen n.0 (subst (Standing K net) (sym e) stands) (subst (λ s. Source K net s u) (sym e) source) (subst (λ s. Target K net s u v n.0) (sym e) n.1)
-      (subst (λ s. Ended K net s.loads u v (tables rows seen (vec_items t₁.via)) n.0) (sym e) n.2))
+      (dispatched rows n.0 (subst (Standing K net) (sym e) stands) (subst (λ s. Source K net s u) (sym e) source) (subst (λ s. Target K net s u v n.0) (sym e) n.1)
+      (subst (λ s. Ended K net s.loads u v (tables rows (vec_items t₁.notes)) n.0) (sym e) n.2))

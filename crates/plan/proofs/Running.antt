@@ -5,7 +5,7 @@ use Rattle.costs.specs.Group.{Group}
 use Rattle.costs.specs.Kind.{Kind, values}
 use Rattle.networks.specs.Net.{Net}
 use Rattle.plan.specs.declared.step.Step.{Step}
-use Rattle.plan.specs.Entries.{Work, Most, write, entry, Under, Fits}
+use Rattle.plan.specs.Entries.{Work, Most, write, entry, Under}
 use Rattle.plan.specs.Rounds.{Walk, Walked, Fell, Rounds}
 use Rattle.plan.specs.Steps.{Gives, Leads}
 use Rattle.plan.specs.Steps.Leads.{there, then}
@@ -14,7 +14,7 @@ use Rattle.plan.specs.Sweeps.Moves.{stay, move}
 use Rattle.plan.proofs.Noting.{noted_same, noted_other, noted_within}
 use Rattle.plan.proofs.Sweeping.{most_is, most_le, below_le, moves_grow, moves_kept, moves_join}
 use Rattle.plan.proofs.Tracing.{moves_traced}
-use Rattle.plan.proofs.Walking.{plus_zero, gives_room, leads_more, leads_last, leads_within}
+use Rattle.plan.proofs.Walking.{plus_zero, gives_room, leads_more, leads_last}
 
 module _ {C R : Type 0} (K : Kind C R) (net : Net C) (loads : List ℕ) where
   abbrev G : Group
@@ -73,8 +73,8 @@ module _ {C R : Type 0} (K : Kind C R) (net : Net C) (loads : List ℕ) where
     }
 
   -- each entry is the value of a walk
-  pub moves_walked : {t t' : Work R} → Fits K (length t.rows) net.ways → Moves K (Left K net loads) t t' → (v : ℕ) (y : G.Carrier) → entry K t' v ≡ Some y → Walked K net loads t v y
-  moves_walked {t} fits stay v y e = record {
+  pub moves_walked : {t t' : Work R} → Moves K (Left K net loads) t t' → (v : ℕ) (y : G.Carrier) → entry K t' v ≡ Some y → Walked K net loads t v y
+  moves_walked {t} stay v y e = record {
     place = v;
     value = y;
     steps = [];
@@ -82,12 +82,11 @@ module _ {C R : Type 0} (K : Kind C R) (net : Net C) (loads : List ℕ) where
     walk = record { met = []; from = e; leads = there v };
     sum = sym (plus_zero G y);
     start = noted_within (values K) t v y e;
-    within = tt;
   }
-  moves_walked {t} fits (move {t'} m s u v c x a near h r sum better) w y e =
+  moves_walked {t} (move {t'} m s u v c x a near h r sum better) w y e =
       ⊎_elim
       (λ (q : w ≡ v).
-      let far = moves_walked fits m u x near in
+      let far = moves_walked m u x near in
       let leads = leads_more K net loads far.walk.leads a.1 (gives_room K net loads a.1) in
       let some : Some (values K r) ≡ Some y = sym (ap (entry K (write t' v r s)) q ∙ noted_same (values K) t' v r s h) ∙ e in
       let is : values K r ≡ y = cc in
@@ -99,16 +98,15 @@ module _ {C R : Type 0} (K : Kind C R) (net : Net C) (loads : List ℕ) where
         walk = record { met = far.walk.met ++ v ∷ []; from = far.walk.from; leads = leads };
         sum = sym is ∙ sum ∙ ap (λ z. G.plus z c) far.sum ∙ G.assoc far.value far.cost c;
         start = far.start;
-        within = leads_within K net loads (length t.rows) fits leads;
       }))
-      (λ (q : w ≡ v → ⊥). moves_walked fits m w y (sym (noted_other (values K) t' v w r s q) ∙ e))
+      (λ (q : w ≡ v → ⊥). moves_walked m w y (sym (noted_other (values K) t' v w r s q) ∙ e))
       (cases_eq w v)
 
-  pub rounds_end : (n : ℕ) (t t' : Work R) → Fits K (length t.rows) net.ways → Ran n t t' → Rounds K net loads n t t' false
-  rounds_end n t t' fits p = record {
+  pub rounds_end : (t t' : Work R) → Ran net.places t t' → Rounds K net loads t t' false
+  rounds_end t t' p = record {
     kept = moves_kept K p.moves;
     grows = moves_grow K p.moves;
-    walked = moves_walked fits p.moves;
+    walked = moves_walked p.moves;
     traced = moves_traced K net loads t p.moves;
     short = p.short;
     least = λ e. absurd (false≢true e);
@@ -127,8 +125,8 @@ module _ {C R : Type 0} (K : Kind C R) (net : Net C) (loads : List ℕ) where
       subst (Most G (entry K t w)) (G.assoc x c d) (least_of t closed p most)
 
   -- a scan that changes nothing ends the rounds
-  pub rounds_early : (n m : ℕ) (t t' t'' : Work R) → n < m → Fits K (length t.rows) net.ways → Ran n t t' → Swept K (Left K net loads) (Left K net loads) (2000000 * length net.ways) t' t'' false → Rounds K net loads m t t'' true
-  rounds_early n m t t' t'' l fits p q =
+  pub rounds_early : (n : ℕ) (t t' t'' : Work R) → n < net.places → Ran n t t' → Swept K (Left K net loads) (Left K net loads) (2000000 * length net.ways) t' t'' false → Rounds K net loads t t'' true
+  rounds_early n t t' t'' l p q =
       let W = 2000000 * length net.ways in
       let moves = moves_join K p.moves q.moves in
       let closed : (s : Step) (u v : ℕ) (c x : G.Carrier) (room : ℕ) → Gives K net loads s u v c room → entry K t'' u ≡ Some x → Most G (entry K t'' v) (G.plus x c) =
@@ -138,11 +136,11 @@ module _ {C R : Type 0} (K : Kind C R) (net : Net C) (loads : List ℕ) where
       record {
         kept = moves_kept K moves;
         grows = moves_grow K moves;
-        walked = moves_walked fits moves;
+        walked = moves_walked moves;
         traced = moves_traced K net loads t moves;
         short = λ u x ss v c w _. least u x ss v c w;
         least = λ _. least;
         closed = λ _. closed;
         fell = λ e. absurd (false≢true (sym e));
-        weight = λ b under v w e. omega (arith, add-mul n 1 W, mul-le-mul_right {m = n + 1} {n = m} W (omega arith), q.weight (b + n * W) (p.weight b under) v w e);
+        weight = λ b under v w e. omega (arith, add-mul n 1 W, mul-le-mul_right {m = n + 1} {n = net.places} W (omega arith), q.weight (b + n * W) (p.weight b under) v w e);
       }

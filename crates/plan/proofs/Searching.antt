@@ -1,6 +1,5 @@
 -- Rounds of scans that begin at zeros give the least costs of walks from there.
 use Rattle.std.proofs.Common.{◌≡◌, ℕ, ◌<◌, Bool, List, length, Some, sym, ap, ◌∙◌, subst, inl, inr, ⊎_elim, arith}
-use Rattle.std.specs.List.{AllByRecursion}
 use Rattle.costs.specs.Group.{Group}
 use Rattle.costs.specs.Kind.{Kind}
 use Rattle.networks.specs.Net.{Net}
@@ -11,8 +10,8 @@ use Rattle.plan.specs.Searches.{Reached, Searched}
 use Rattle.plan.specs.Starts.{Zeros}
 use Rattle.plan.specs.Steps.{Leads}
 
-module _ {C R : Type 0} (K : Kind C R) (net : Net C) (loads : List ℕ) (starts : ℕ → Type 0) (n : ℕ) (t t' : Work R) (still : Bool)
-    (z : Zeros K starts t) (r : Rounds K net loads n t t' still) where
+module _ {C R : Type 0} (K : Kind C R) (net : Net C) (loads : List ℕ) (starts : ℕ → Type 0) (t t' : Work R) (long : length t.rows ≡ net.places) (still : Bool)
+    (z : Zeros K starts t) (r : Rounds K net loads t t' still) where
   abbrev G : Group
   G = K.group
 
@@ -22,7 +21,7 @@ module _ {C R : Type 0} (K : Kind C R) (net : Net C) (loads : List ℕ) (starts 
   from_zero : (v : ℕ) (c : G.Carrier) → Most G (entry K t' v) (G.plus G.zero c) → Most G (entry K t' v) c
   from_zero v c m = subst (Most G (entry K t' v)) (G.unit c) m
 
-  reach : (v : ℕ) (y : G.Carrier) → entry K t' v ≡ Some y → Reached K net loads starts (length t'.rows) v y
+  reach : (v : ℕ) (y : G.Carrier) → entry K t' v ≡ Some y → Reached K net loads starts v y
   reach v y e =
       let w = r.walked v y e in
       let o = z.only w.place w.value w.walk.from in
@@ -33,17 +32,16 @@ module _ {C R : Type 0} (K : Kind C R) (net : Net C) (loads : List ℕ) (starts 
         met = w.walk.met;
         begins = o.0;
         leads = subst (λ c. Leads K net loads 1 w.place w.steps w.walk.met v c) cost w.walk.leads;
-        inside = subst (λ k. w.place < k) (sym r.kept.rows) w.start;
-        within = subst (λ k. AllByRecursion (λ x. x < k) w.walk.met) (sym r.kept.rows) w.within;
+        inside = subst (λ k. w.place < k) long w.start;
       }
 
-  pub searched : Searched K net loads starts n t' still
+  pub searched : Searched K net loads starts t' still
   searched = record {
     begun = λ v s. r.grows v G.zero (z.each v s);
     reached = reach;
     traced = record {
       rank = r.traced.rank;
-      each = λ v y e. ⊎_elim (λ p. inl (z.only v y p.0)) (λ k. inr k) (r.traced.each v y e);
+      each = λ v y e. ⊎_elim (λ p. let o = z.only v y p.0 in inl (o.0, o.1, p.1 ∙ z.noted v o.0)) (λ k. inr k) (r.traced.each v y e);
     };
     short = λ u v ss vs c s p l. from_zero v c (r.short u G.zero ss v c (walk s p) l);
     least = λ h u v ss vs c s p. from_zero v c (r.least h u G.zero ss v c (walk s p));

@@ -1,84 +1,85 @@
--- Marks and rows as they are set at the start give what the start promises.
-use Rattle.std.proofs.Common.{◌≡◌, ℕ, zero, suc, ◌<◌, Bool, true, false, cond, List, length, get_or, set, replicate, Some, None, sym, refl, ap, ◌∙◌, subst, ap₂, ⊎_elim, arith}
+-- Notes and rows as they are set at the start give what the start promises.
+use Rattle.std.proofs.Common.{◌≡◌, ℕ, zero, suc, ◌<◌, cond, ◌⊎◌, List, length, get_or, set, replicate, Some, None, sym, refl, ap, ◌∙◌, subst, ap₂, inl, inr, ⊎_elim, arith}
 use Rattle.std.specs.List.{slice_get}
 use Rattle.std.specs.Option.{option_map}
-use Rattle.std.proofs.lemmas.List.{get_or-set_same, get_or-set_other, get_or-replicate, length-replicate}
-use Rattle.std.proofs.lemmas.Bool.{cases_eq}
+use Rattle.std.proofs.lemmas.Bool.{cases_eq, cases_lt}
+use Rattle.std.proofs.lemmas.List.{get_or-set_other, get_or-replicate, get_or_past, length-replicate}
+use Rattle.std.proofs.lemmas.Option.{slice_get-get_or, get_or_from_slice_get}
 use Rattle.costs.specs.Kind.{Kind, values, weights}
-use Rattle.plan.specs.declared.step.Step.{Step}
-use Rattle.plan.specs.Entries.{Work, noted}
-use Rattle.plan.specs.Starts.{Zeros}
-use Rattle.plan.proofs.Noting.{nth_set_same, noted_unseen, noted_within}
+use Rattle.plan.specs.declared.note.Note.{Note}
+use Rattle.plan.specs.declared.note.Note.TheVariants.{Unseen, Start}
+use Rattle.plan.specs.declared.starts.Starts.{Starts}
+use Rattle.plan.specs.declared.starts.Starts.TheVariants.{At, Everywhere}
+use Rattle.plan.specs.Entries.{Work, is_seen, noted}
+use Rattle.plan.specs.Starts.{Zeros, IsStart}
+use Rattle.plan.proofs.Noting.{nth_set_same, noted_unseen}
 
-unmarked : (n v : ℕ) → get_or (replicate n false) v false ≡ false
-unmarked zero v = refl
-unmarked (suc n) zero = refl
-unmarked (suc n) (suc v) = unmarked n v
+-- what stands in n times the same
+nth_replicate : {X : Type 0} (n v : ℕ) (x : X) → v < n → slice_get (replicate n x) v ≡ Some x
+nth_replicate n v x l =
+    slice_get-get_or (replicate n x) v x (omega (arith, l, length-replicate n x)) ∙ ap (λ y. Some y) (get_or-replicate n v x x l)
 
-module _ {R A : Type 0} (f : R → A) (rows : List R) (n s : ℕ) (r : R) (via : List Step) (l : s < length rows) (m : s < n) where
-  abbrev one : Work R
-  one = record { rows = set rows s r; seen = set (replicate n false) s true; via = via }
+unseen : (n v : ℕ) → get_or (replicate n Unseen) v Unseen ≡ Unseen
+unseen zero v = refl
+unseen (suc n) zero = refl
+unseen (suc n) (suc v) = unseen n v
 
-  one_here : noted f one s ≡ Some (f r)
-  one_here =
-      ap₂ (λ b o. cond b (option_map f o) None) (get_or-set_same (replicate n false) s true false (subst (λ k. s < k) (sym (length-replicate n false)) m)) (nth_set_same rows s r l)
+-- the place where a search starts is on the tables
+pub at_inside : (n u : ℕ) (s : Starts) → s ≡ At u → ((v : ℕ) → IsStart n s v → v < n) → u < n
+at_inside n u s is h = h u (subst (λ z. IsStart n z u) (sym is) refl)
 
-  one_only : (v : ℕ) (x : A) → noted f one v ≡ Some x → (v ≡ s) × (x ≡ f r)
-  one_only v x e =
-      ⊎_elim
-      (λ (q : v ≡ s).
-      let some : Some (f r) ≡ Some x = sym (ap (noted f one) q ∙ one_here) ∙ e in
-      let is : x ≡ f r = cc in
-      (q, is))
-      (λ (q : v ≡ s → ⊥).
-      let none : None ≡ Some x = sym (noted_unseen f one v (get_or-set_other (replicate n false) s v true false q ∙ unmarked n v)) ∙ e in
-      let z : ◌≡◌ {A = ℕ} 0 1 = cc in
-      absurd (omega arith))
-      (cases_eq v s)
+-- the starts are noted, with one row, and no other place is
+module _ {R : Type 0} (starts : ℕ → Type 0) (t : Work R) (r : R)
+    (on : (v : ℕ) → starts v → (slice_get t.notes v ≡ Some Start) × (slice_get t.rows v ≡ Some r))
+    (off : (v : ℕ) → starts v ⊎ (get_or t.notes v Unseen ≡ Unseen))
+  where
+    here : {A : Type 0} (f : R → A) (v : ℕ) → starts v → noted f t v ≡ Some (f r)
+    here f v s =
+        let p = on v s in
+        ap₂ (λ m o. cond (is_seen m) (option_map f o) None) (get_or_from_slice_get t.notes v Start Unseen p.0) p.1
 
-module _ {R A : Type 0} (f : R → A) (rows : List R) (r : R) (via : List Step) (full : (v : ℕ) → v < length rows → slice_get rows v ≡ Some r) where
-  abbrev all : Work R
-  all = record { rows = rows; seen = replicate (length rows) true; via = via }
+    only : {A : Type 0} (f : R → A) (v : ℕ) (x : A) → noted f t v ≡ Some x → starts v × (x ≡ f r)
+    only f v x e =
+        ⊎_elim
+        (λ s.
+        let some : Some (f r) ≡ Some x = sym (here f v s) ∙ e in
+        let is : x ≡ f r = cc in
+        (s, is))
+        (λ q.
+        let none : None ≡ Some x = sym (noted_unseen f t v (ap is_seen q)) ∙ e in
+        let z : ◌≡◌ {A = ℕ} 0 1 = cc in
+        absurd (omega arith))
+        (off v)
 
-  all_here : (v : ℕ) → v < length rows → noted f all v ≡ Some (f r)
-  all_here v l = ap₂ (λ b o. cond b (option_map f o) None) (get_or-replicate (length rows) v true false l) (full v l)
+    pub zeros : {C : Type 0} (K : Kind C R) (z : C) → K.value z ≡ K.group.zero → r ≡ K.row_of z → Zeros K starts t
+    zeros K z zero_is row_is =
+        let reads : K.reads r ≡ z = ap K.reads row_is ∙ K.reads_back z in
+        let worth : values K r ≡ K.group.zero = ap K.value reads ∙ zero_is in
+        let heavy : weights K r ≡ 0 = ap K.weighs reads ∙ K.zero_weighs z zero_is in
+        record {
+          each = λ v s. here (values K) v s ∙ ap (λ y. Some y) worth;
+          only = λ v x h. let p = only (values K) v x h in (p.0, p.1 ∙ worth);
+          noted = λ v s. (on v s).0;
+          weight = λ v w h. omega (arith, (only (weights K) v w h).1, heavy);
+        }
 
-  all_only : (v : ℕ) (x : A) → noted f all v ≡ Some x → (v < length rows) × (x ≡ f r)
-  all_only v x e =
-      let l = noted_within f all v x e in
-      let some : Some (f r) ≡ Some x = sym (all_here v l) ∙ e in
-      let is : x ≡ f r = cc in
-      (l, is)
+module _ {C R : Type 0} (K : Kind C R) (z : C) (r : R) (zero_is : K.value z ≡ K.group.zero) (row_is : r ≡ K.row_of z) (n : ℕ) where
+  -- one place is a start
+  pub alone : (rows : List R) (notes : List Note) (u : ℕ) → notes ≡ replicate n Unseen → u < length rows → u < n →
+      Zeros K (IsStart n (At u)) (record { rows = set rows u r; notes = set notes u Start })
+  alone rows notes u e l m = subst (λ ns. Zeros K (IsStart n (At u)) (record { rows = set rows u r; notes = set ns u Start })) (sym e)
+      (zeros (IsStart n (At u)) (record { rows = set rows u r; notes = set (replicate n Unseen) u Start }) r
+      (λ v q. (
+        ap (slice_get (set (replicate n Unseen) u Start)) q ∙ nth_set_same (replicate n Unseen) u Start (omega (arith, m, length-replicate n Unseen)),
+        ap (slice_get (set rows u r)) q ∙ nth_set_same rows u r l,
+      ))
+      (λ v. ⊎_elim (λ q. inl q) (λ q. inr (get_or-set_other (replicate n Unseen) u v Start Unseen q ∙ unseen n v)) (cases_eq v u))
+      K z zero_is row_is)
 
-module _ {C R : Type 0} (K : Kind C R) (z : C) (r : R) (zero_is : K.value z ≡ K.group.zero) (row_is : r ≡ K.row_of z) where
-  reads : K.reads r ≡ z
-  reads = ap K.reads row_is ∙ K.reads_back z
-
-  worth : values K r ≡ K.group.zero
-  worth = ap K.value reads ∙ zero_is
-
-  heavy : weights K r ≡ 0
-  heavy = ap K.weighs reads ∙ K.zero_weighs z zero_is
-
-  pub alone : (rows : List R) (seen : List Bool) (n s : ℕ) → seen ≡ replicate n false → s < length rows → s < n → (via : List Step)
-      → Zeros K (λ v. v ≡ s) (record { rows = set rows s r; seen = set seen s true; via = via })
-  alone rows seen n s e l m via = subst (λ bs. Zeros K (λ v. v ≡ s) (record { rows = set rows s r; seen = set bs s true; via = via })) (sym e) (record {
-    each = λ v q. ap (noted (values K) (one (values K) rows n s r via l m)) q ∙ one_here (values K) rows n s r via l m ∙ ap (λ y. Some y) worth;
-    only = λ v x h.
-        let p = one_only (values K) rows n s r via l m v x h in
-        (p.0, p.1 ∙ worth);
-    weight = λ v w h. omega (arith, (one_only (weights K) rows n s r via l m v w h).1, heavy);
-  })
-
-  pub everywhere : (rows : List R) (seen : List Bool) (n : ℕ) → length rows ≡ n → seen ≡ replicate n true → ((v : ℕ) → v < length rows → slice_get rows v ≡ Some r) → (via : List Step)
-      → Zeros K (λ v. v < n) (record { rows = rows; seen = seen; via = via })
-  everywhere rows seen n long e full via =
-      let same : seen ≡ replicate (length rows) true = e ∙ ap (λ k. replicate k true) (sym long) in
-      subst (λ k. Zeros K (λ v. v < k) (record { rows = rows; seen = seen; via = via })) long
-      (subst (λ bs. Zeros K (λ v. v < length rows) (record { rows = rows; seen = bs; via = via })) (sym same) (record {
-        each = λ v l. all_here (values K) rows r via full v l ∙ ap (λ y. Some y) worth;
-        only = λ v x h.
-            let p = all_only (values K) rows r via full v x h in
-            (p.0, p.1 ∙ worth);
-        weight = λ v w h. omega (arith, (all_only (weights K) rows r via full v w h).1, heavy);
-      }))
+  -- every place is
+  pub everywhere : (rows : List R) (notes : List Note) → ((v : ℕ) → v < n → slice_get rows v ≡ Some r) → notes ≡ replicate n Start → Zeros K (IsStart n Everywhere) (record { rows = rows; notes = notes })
+  everywhere rows notes full e = subst (λ ns. Zeros K (IsStart n Everywhere) (record { rows = rows; notes = ns })) (sym e)
+      (zeros (IsStart n Everywhere) (record { rows = rows; notes = replicate n Start }) r
+      (λ v l. (nth_replicate n v Start l, full v l))
+      (λ v. ⊎_elim (λ l. inl l) (λ l. inr (get_or_past (replicate n Start) v Unseen (omega (arith, l, length-replicate n Start)))) (cases_lt v n))
+      K z zero_is row_is)

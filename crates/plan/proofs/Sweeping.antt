@@ -4,6 +4,7 @@ use Rattle.std.proofs.lemmas.List.{length-set}
 use Rattle.std.proofs.lemmas.Bool.{cases_eq, or_cases, or_parts, false≢true}
 use Rattle.costs.specs.Group.{Group, Below}
 use Rattle.costs.specs.Kind.{Kind, values, weights}
+use Rattle.plan.specs.declared.note.Note.TheVariants.{Via}
 use Rattle.plan.specs.declared.step.Step.{Step}
 use Rattle.plan.specs.Entries.{Work, Holds, Most, Better, noted, write, entry, Under}
 use Rattle.plan.specs.Rounds.{Kept}
@@ -42,14 +43,10 @@ module _ {C R : Type 0} (K : Kind C R) where
         (cases_eq w v)
 
     pub moves_kept : {t' : Work R} → Moves K may t t' → Kept t t'
-    moves_kept stay = record { rows = refl; seen = refl; via = refl }
+    moves_kept stay = record { rows = refl; notes = refl }
     moves_kept (move {t'} m s u v c y a near h r sum better) =
         let k = moves_kept m in
-        record {
-          rows = length-set t'.rows v r ∙ k.rows;
-          seen = length-set t'.seen v true ∙ k.seen;
-          via = length-set t'.via v s ∙ k.via;
-        }
+        record { rows = length-set t'.rows v r ∙ k.rows; notes = length-set t'.notes v (Via s) ∙ k.notes }
 
     pub moves_join : {t' t'' : Work R} → Moves K may t t' → Moves K may t' t'' → Moves K may t t''
     moves_join m stay = m

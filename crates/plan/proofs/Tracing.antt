@@ -4,6 +4,7 @@ use Rattle.std.proofs.lemmas.Bool.{cases_eq, eq-eqb, ne_eqb, cond-true, cond-fal
 use Rattle.costs.specs.Group.{Group, Below}
 use Rattle.costs.specs.Kind.{Kind, values}
 use Rattle.networks.specs.Net.{Net}
+use Rattle.plan.specs.declared.note.Note.TheVariants.{Via}
 use Rattle.plan.specs.declared.step.Step.{Step}
 use Rattle.plan.specs.Entries.{Work, Holds, Better, write, entry}
 use Rattle.plan.specs.Rounds.{Came, Traced}
@@ -53,7 +54,7 @@ module _ {C R : Type 0} (K : Kind C R) (net : Net C) (loads : List ℕ) (t : Wor
           cost = c;
           room = room;
           value = z;
-          note = nth_set_same t'.via v s h.via;
+          note = nth_set_same t'.notes v (Via s) h.notes;
           gives = gives;
           is = is;
           above = above;
@@ -76,7 +77,7 @@ module _ {C R : Type 0} (K : Kind C R) (net : Net C) (loads : List ℕ) (t : Wor
           cost = k.cost;
           room = k.room;
           value = z;
-          note = nth_set_other t'.via v w s ne ∙ k.note;
+          note = nth_set_other t'.notes v w (Via s) ne ∙ k.note;
           gives = k.gives;
           is = is;
           above = above;
@@ -103,7 +104,7 @@ module _ {C R : Type 0} (K : Kind C R) (net : Net C) (loads : List ℕ) (t : Wor
           let is : new ≡ y = cc in
           inr (subst (λ i. Came K net loads after rank i y) (sym q) (came_here y is)))
           (λ (q : w ≡ v → ⊥). ⊎_elim
-          (λ p. inl (p.0, nth_set_other t'.via v w s q ∙ p.1))
+          (λ p. inl (p.0, nth_set_other t'.notes v w (Via s) q ∙ p.1))
           (λ k. inr (came_other w y q k))
           (old.each w y (sym (noted_other (values K) t' v w r s q) ∙ e)))
           (cases_eq w v);

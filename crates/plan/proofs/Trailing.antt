@@ -1,11 +1,13 @@
 -- Following the noted steps back from a place comes to where the search began, along a cheapest route.
-use Rattle.std.proofs.Common.{◌≡◌, ℕ, zero, suc, ◌+◌, ◌<◌, ◌≤◌, min, Bool, true, ◌≢◌, List, [], ◌∷◌, reverse, length, take, set, Some, None, sym, refl, ap, ◌∙◌, subst, ⊎_elim, arith, length-take}
+use Rattle.std.proofs.Common.{◌≡◌, ℕ, ◌+◌, ◌<◌, ◌≤◌, min, true, ◌≢◌, ◌⊎◌, List, [], ◌∷◌, reverse, length, take, set, Some, None, sym, refl, ap, ◌∙◌, subst, ⊎_elim, arith}
 use lib.ListN.{length-reverse}
 use Rattle.std.specs.List.{slice_get, AllByRecursion}
 use Rattle.std.proofs.ByRecursion.{All-weaker}
 use Rattle.std.proofs.lemmas.List.{reverse-append, take_more_set, length-take-le}
 use Rattle.costs.specs.Kind.{Kind}
 use Rattle.networks.specs.Net.{Net}
+use Rattle.plan.specs.declared.note.Note.{Note}
+use Rattle.plan.specs.declared.note.Note.TheVariants.{Unseen, Start, Via}
 use Rattle.plan.specs.declared.step.Step.{Step}
 use Rattle.plan.specs.Entries.{Work, tables, front, entry}
 use Rattle.plan.specs.Rounds.{Came}
@@ -13,18 +15,10 @@ use Rattle.plan.specs.Searches.{Searched}
 use Rattle.plan.specs.Steps.{Gives, Leads, there, then, Route}
 use Rattle.plan.specs.Trails.{on_path, Ended, Trailed}
 use Rattle.plan.proofs.Flow.{unit_of}
-use Rattle.plan.proofs.Costs.{cancel}
 use Rattle.plan.proofs.Bridge.{given}
 use Rattle.plan.proofs.Walks.{one_step, HasRoom, leads_rooms, rooms_lead, walk_inside, route_short}
-use Rattle.plan.proofs.Found.{Distances, rises}
+use Rattle.plan.proofs.Found.{Distances}
 use Rattle.plan.proofs.Rising.{Rising, rising_apart}
-
--- what stands in the first n of a list stands in it
-nth_front : {X : Type 0} (n : ℕ) (xs : List X) (k : ℕ) (x : X) → slice_get (take n xs) k ≡ Some x → slice_get xs k ≡ Some x
-nth_front zero xs k x e = let z : ◌≡◌ {A = ℕ} 0 1 = cc in absurd (omega arith)
-nth_front (suc n) [] k x e = e
-nth_front (suc n) (y ∷ xs) zero x e = e
-nth_front (suc n) (y ∷ xs) (suc k) x e = nth_front n xs k x e
 
 -- one step more on a path is the first of the route
 path_more : (path : List Step) (i : ℕ) (s : Step) → i < length path → on_path (i + 1) (set path i s) ≡ s ∷ on_path i path
@@ -48,7 +42,7 @@ module _ {C R : Type 0} (K : Kind C R) (net : Net C) (loads : List ℕ) where
     pub positive : 1 ≤ amount → 1 ≤ left
     pub most : (z : ℕ) → z ≤ amount → AllByRecursion (HasRoom K net loads z) ss → z ≤ left
 
-  module _ {n u : ℕ} {t : Work R} (searched : Searched K net loads (λ v. v ≡ u) n t true) where
+  module _ {u : ℕ} {t : Work R} (searched : Searched K net loads (λ v. v ≡ u) t true) where
     -- the entries of a search from u that ended
     pub distances_by : Distances K net loads u (λ v x. entry K t v ≡ Some x)
     distances_by = record {
@@ -66,9 +60,9 @@ module _ {C R : Type 0} (K : Kind C R) (net : Net C) (loads : List ℕ) where
   leads_some (there u) ne = absurd (ne refl)
   leads_some (then u v w s ss vs c d r g l rest) ne = omega arith
 
-  module _ (via : List Step) (rows : List R) (seen : List Bool) (from to amount : ℕ) (y : K.group.Carrier) (e : Ended K net loads from to (tables rows seen via) y) where
+  module _ (notes : List Note) (rows : List R) (from to amount : ℕ) (y : K.group.Carrier) (e : Ended K net loads from to (tables rows notes) y) where
     abbrev t : Work R
-    t = front net.places (tables rows seen via)
+    t = front net.places (tables rows notes)
 
     abbrev rank : ℕ → ℕ
     rank = e.searched.traced.rank
@@ -83,24 +77,10 @@ module _ {C R : Type 0} (K : Kind C R) (net : Net C) (loads : List ℕ) where
     begins_inside =
         let r = e.searched.reached to y e.is in
         let same : r.place ≡ from = r.begins in
-        omega (arith, r.inside, length-take net.places rows)
+        omega (arith, r.inside)
 
     entry_inside : (v : ℕ) (x : K.group.Carrier) → entry K t v ≡ Some x → v < net.places
     entry_inside v x i = walk_inside K net loads e.inside begins_inside (found.walked v x i).2
-
-    -- where the search began the entry is zero
-    begins_zero : (x : K.group.Carrier) → entry K t from ≡ Some x → x ≡ K.group.zero
-    begins_zero x i =
-        let G = K.group in
-        let m = found.start in
-        let low : G.le x G.zero = subst (λ z. G.le z G.zero) (found.entries.one from m.0 x m.1 i) m.2 in
-        let b = rises K net loads found.entries i (found.walked from x i).2 in
-        let up : G.le x (G.plus x x) = subst (λ z. G.le z (G.plus x x)) (found.entries.one from b.0 x b.1 i) b.2 in
-        G.antisym _ _ low (cancel G G.zero x x (subst (λ z. G.le z (G.plus x x)) (sym (G.unit x)) up))
-
-    -- the step that is noted at another place with an entry
-    came_by : (v : ℕ) (x : K.group.Carrier) → v ≢ from → entry K t v ≡ Some x → Came K net loads t rank v x
-    came_by v x ne i = ⊎_elim (λ s. absurd (ne s.0)) (λ c. c) (e.searched.traced.each v x i)
 
     pub far_start : Far [] to amount
     far_start = record {
@@ -117,16 +97,29 @@ module _ {C R : Type 0} (K : Kind C R) (net : Net C) (loads : List ℕ) where
       most = λ z l h. l;
     }
 
-    module _ (ss : List Step) (at left : ℕ) (far : Far ss at left) (ne : at ≢ from) where
-      came : Came K net loads t rank at far.value
-      came = came_by at far.value ne far.is
+    module _ (ss : List Step) (at left : ℕ) (far : Far ss at left) where
+      -- there is a note where it has come to: of the start, or of a step
+      noted : ((at ≡ from) × (far.value ≡ K.group.zero) × (slice_get notes at ≡ Some Start)) ⊎ Came K net loads t rank at far.value
+      noted = e.searched.traced.each at far.value far.is
 
-      pub far_noted : slice_get via at ≡ None → ⊥
-      far_noted none = let n = nth_front net.places via at came.step came.note in let z : ◌≡◌ {A = ℕ} 0 1 = cc in omega arith
+      pub far_noted : slice_get notes at ≡ None → ⊥
+      far_noted none = ⊎_elim (λ s. let q = s.2 in unlike q none) (λ k. let q = k.note in unlike q none) noted
+        where
+          unlike : {n : Note} → slice_get notes at ≡ Some n → slice_get notes at ≡ None → ⊥
+          unlike p q = let z : ◌≡◌ {A = ℕ} 0 1 = cc in omega arith
 
-      module _ (s : Step) (note : slice_get via at ≡ Some s) where
+      pub far_seen : slice_get notes at ≡ Some Unseen → ⊥
+      far_seen unseen = ⊎_elim (λ s. let q = s.2 in let z : ◌≡◌ {A = ℕ} 0 1 = cc in omega arith) (λ k. let q = k.note in let z : ◌≡◌ {A = ℕ} 0 1 = cc in omega arith) noted
+
+      pub far_begins : slice_get notes at ≡ Some Start → (at ≡ from) × (far.value ≡ K.group.zero)
+      far_begins start = ⊎_elim (λ s. (s.0, s.1)) (λ k. let q = k.note in let z : ◌≡◌ {A = ℕ} 0 1 = cc in absurd (omega arith)) noted
+
+      module _ (s : Step) (note : slice_get notes at ≡ Some (Via s)) where
+        came : Came K net loads t rank at far.value
+        came = ⊎_elim (λ p. let q = p.2 in let z : ◌≡◌ {A = ℕ} 0 1 = cc in absurd (omega arith)) (λ k. k) noted
+
         came_step : came.step ≡ s
-        came_step = let n = nth_front net.places via at came.step came.note in cc
+        came_step = let n = came.note in cc
 
         came_gives : Gives K net loads s came.from at came.cost came.room
         came_gives = subst (λ x. Gives K net loads x came.from at came.cost came.room) came_step came.gives
@@ -163,16 +156,18 @@ module _ {C R : Type 0} (K : Kind C R) (net : Net C) (loads : List ℕ) where
 
     module _ (path : List Step) (i : ℕ) (at left : ℕ) (far : Far (on_path i path) at left) where
       -- one turn more
-      pub far_turn : i < length path → (ne : at ≢ from) (s : Step) → slice_get via at ≡ Some s → (u r m : ℕ) → (v : ℕ) × (c : K.group.Carrier) × Gives K net loads s u v c r → m ≡ min left r →
+      pub far_turn : i < length path → (s : Step) → slice_get notes at ≡ Some (Via s) → (u r m v : ℕ) (c : K.group.Carrier) → Gives K net loads s u v c r → m ≡ min left r →
           Far (on_path (i + 1) (set path i s)) u m
-      far_turn l ne s note u r m g is =
+      far_turn l s note u r m v c g is =
           subst (λ n. Far (on_path (i + 1) (set path i s)) u n) (sym is)
-          (subst (λ ss. Far ss u (min left r)) (sym (path_more path i s l)) (far_more (on_path i path) at left far ne s note u r g.0 g.1 g.2))
+          (subst (λ ss. Far ss u (min left r)) (sym (path_more path i s l)) (far_more (on_path i path) at left far s note u r v c g))
 
-      pub far_ends : i < length path → at ≡ from → Trailed K net loads from to amount path y (record { len = i; amount = left })
-      far_ends l is =
+      pub far_ends : i < length path → slice_get notes at ≡ Some Start → Trailed K net loads from to amount path y (record { len = i; amount = left })
+      far_ends l start =
           let G = K.group in
-          let nothing : far.value ≡ G.zero = begins_zero far.value (subst (λ u. entry K t u ≡ Some far.value) is far.is) in
+          let b = far_begins (on_path i path) at left far start in
+          let is = b.0 in
+          let nothing = b.1 in
           let cost : far.cost ≡ y = sym (G.unit far.cost) ∙ ap (λ z. G.plus z far.cost) (sym nothing) ∙ far.sum in
           let leads : Leads K net loads 1 from (on_path i path) far.met to y =
           subst (λ u. Leads K net loads 1 u (on_path i path) far.met to y) is (subst (Leads K net loads 1 at (on_path i path) far.met to) cost far.leads) in
@@ -198,8 +193,8 @@ module _ {C R : Type 0} (K : Kind C R) (net : Net C) (loads : List ℕ) where
           let short = route_short K net loads e.inside (entry_inside at far.value far.is) one in
           omega (arith, path_length path i m)
 
-  -- so far, after any search that noted `via`
-  abbrev pub SoFarBy : List Step → ℕ → ℕ → ℕ → List Step → ℕ → ℕ → Type 0
-  SoFarBy via from to amount ss at left =
-      (rows : List R) (seen : List Bool) (y : K.group.Carrier) (e : Ended K net loads from to (tables rows seen via) y) →
-      SoFar (front net.places (tables rows seen via)) e.searched.traced.rank to amount y ss at left
+  -- so far, after any search that left those notes
+  abbrev pub SoFarBy : List Note → ℕ → ℕ → List Step → ℕ → ℕ → Type 0
+  SoFarBy notes to amount ss at left =
+      (rows : List R) (from : ℕ) (y : K.group.Carrier) (e : Ended K net loads from to (tables rows notes) y) →
+      SoFar (front net.places (tables rows notes)) e.searched.traced.rank to amount y ss at left

@@ -1,11 +1,9 @@
--- Walks: one step more at the end, the last step apart, and the places met.
-use Rattle.std.proofs.Common.{◌≡◌, ℕ, suc, ◌<◌, ◌≤◌, List, [], ◌∷◌, ◌++◌, length, sym, refl, ap, ◌∙◌, subst, arith}
-use Rattle.std.specs.List.{AllByRecursion}
+-- Walks: one step more at the end, and the last step apart.
+use Rattle.std.proofs.Common.{◌≡◌, ℕ, suc, ◌≤◌, List, [], ◌∷◌, ◌++◌, length, sym, refl, ap, ◌∙◌, subst, arith}
 use Rattle.costs.specs.Group.{Group}
 use Rattle.costs.specs.Kind.{Kind}
 use Rattle.networks.specs.Net.{Net}
 use Rattle.plan.specs.declared.step.Step.{Step}
-use Rattle.plan.specs.Entries.{Fits}
 use Rattle.plan.specs.Steps.{Gives, Leads}
 use Rattle.plan.specs.Steps.Gives.{forth, behind}
 use Rattle.plan.specs.Steps.Leads.{there, then}
@@ -82,12 +80,3 @@ module _ {C R : Type 0} (K : Kind C R) (net : Net C) (loads : List ℕ) where
             long = ap suc q.long;
             sum = ap (G.plus c) q.sum ∙ sym (G.assoc c q.cost q.more);
           }
-
-  -- every place that a walk meets is an end of a way
-  pub leads_within : {x u v : ℕ} {ss : List Step} {vs : List ℕ} {c : G.Carrier} (n : ℕ) → Fits K n net.ways → Leads K net loads x u ss vs v c → AllByRecursion (λ y. y < n) vs
-  leads_within n fits (there u) = tt
-  leads_within n fits (then u v w s ss vs c d r g l p) = (gives_within n fits g, leads_within n fits p)
-    where
-      gives_within : {s : Step} {u v : ℕ} {c : G.Carrier} {r : ℕ} (n : ℕ) → Fits K n net.ways → Gives K net loads s u v c r → v < n
-      gives_within n fits (forth k w known space) = (fits k w known).head
-      gives_within n fits (behind k w known loaded) = (fits k w known).tail

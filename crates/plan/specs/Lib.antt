@@ -3,6 +3,7 @@ pub mod Loads
 pub mod Marks
 pub mod Nearest
 pub mod Steps
+pub mod Legs
 pub mod Entries
 pub mod Sweeps
 pub mod Rounds

@@ -1,5 +1,5 @@
 -- What is sent from one place to another, and how the tables end.
-use Rattle.std.specs.Prelude.{◌≡◌, ℕ, ◌≤◌, Bool, List, ℤ, pos, ◌-ℤ◌, neg_ℤ, ◌≤ℤ◌, ◌<ℤ◌, vec_items, vec_len, slice_index_or}
+use Rattle.std.specs.Prelude.{◌≡◌, ℕ, ◌≤◌, List, ℤ, pos, ◌-ℤ◌, neg_ℤ, ◌≤ℤ◌, ◌<ℤ◌, vec_items, vec_len, slice_index_or}
 use Rattle.costs.specs.Kind.{Kind}
 use Rattle.networks.specs.Net.{Net}
 use Rattle.plan.specs.declared.table.Table.{Table}
@@ -33,5 +33,5 @@ pub record AsLong (t t' : Table) : Type 0 where
 -- after any search from the source u that noted a way to the target v: x is sent from u to v as the rules say
 abbrev pub Dispatched : {C R : Type 0} → Kind C R → Net C → Table → ℕ → ℕ → ℕ → State → Type 0
 Dispatched {C} {R} K net t u v x s' =
-    (rows : List R) (seen : List Bool) (y : K.group.Carrier) → Standing K net (state_of t) → Source K net (state_of t) u → Target K net (state_of t) u v y →
-    Ended K net (vec_items t.loads) u v (tables rows seen (vec_items t.via)) y → Sends K net (state_of t) u v x s'
+    (rows : List R) (y : K.group.Carrier) → Standing K net (state_of t) → Source K net (state_of t) u → Target K net (state_of t) u v y →
+    Ended K net (vec_items t.loads) u v (tables rows (vec_items t.notes)) y → Sends K net (state_of t) u v x s'

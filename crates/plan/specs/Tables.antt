@@ -1,10 +1,11 @@
 -- What a plan's table holds, and what its own calls do to it.
-use Rattle.std.specs.Prelude.{◌≡◌, ℕ, true, ◌||◌, List, length, replicate, ℤ, pos, ◌+ℤ◌, ◌-ℤ◌, Some, None, Ok, Err, vec_items, vec_len, Option, Result, ◌==◌, nat_lt, slice_index_or}
+use Rattle.std.specs.Prelude.{◌≡◌, ℕ, true, ◌||◌, ◌≤◌, List, length, replicate, ℤ, pos, ◌+ℤ◌, ◌-ℤ◌, Some, None, Ok, Err, vec_items, vec_len, Option, Result, ◌==◌, nat_lt, slice_index_or}
+use Rattle.costs.specs.Kind.{Kind}
 use Rattle.networks.specs.Net.{Net}
 use Rattle.networks.specs.declared.refusal.Refusal.{Refusal}
 use Rattle.networks.specs.declared.refusal.Refusal.TheVariants.{NoPlace, SamePlace, BadAmount, RestBound}
 use Rattle.plan.specs.declared.table.Table.{Table}
-use Rattle.plan.specs.Checks.{or_else, when, outside, beyond}
+use Rattle.plan.specs.Checks.{or_else, when, outside, beyond, net_fault}
 use Rattle.plan.specs.Rules.{move}
 use Rattle.plan.specs.State.{State}
 
@@ -39,6 +40,12 @@ pub record Cleared (t t' : Table) : Type 0 where
 pub record MadeFor {C : Type 0} (net : Net C) (t : Table) : Type 0 where
   pub loads : vec_len t.loads ≡ length net.ways
   pub rests : vec_len t.rests ≡ net.places
+
+-- the network passed the checks, the table was made for it, and so many rows suffice for its places
+pub record Ready {C R : Type 0} (K : Kind C R) (net : Net C) (t : Table) (rows : ℕ) : Type 0 where
+  pub fair : net_fault K net ≡ None
+  pub made : MadeFor net t
+  pub enough : net.places ≤ rows
 
 -- loads, rests and count are as they were, and the tables as long
 pub record Same (t t' : Table) : Type 0 where

@@ -1,8 +1,10 @@
-ghost use Rattle.std.specs.Prelude.{◌≤◌, length};
+ghost use Rattle.std.specs.Prelude.{◌<◌, length, IfSome};
 ghost use Rattle.plan.specs.Trails.{Trails};
 
-use super::leg::leg_of;
+use super::loaded::Loaded;
+use super::note::Note;
 use super::step::Step;
+use costs::Cost;
 use networks::Network;
 
 // So many steps lie on a path, the last of a route first, and so much can be sent along them.
@@ -12,39 +14,33 @@ pub(crate) struct Trail {
     pub(crate) amount: u32,
 }
 
-// Follows the noted steps back from `to` to `from`, and puts them on the path. The amount is the smallest of `amount` and their rooms.
-// None if they do not come to `from` before the path is full.
-pub(crate) fn trace<N: Network>(
-    net: &N,
-    loads: &[u32],
-    via: &[Step],
-    path: &mut [Step],
-    from: usize,
-    to: usize,
-    amount: u32,
-) -> Option<Trail>
-    requires { length (N.Network.means net.now).ways ≤ length loads.now }
-    ensures { Trails N.Cost.Cost.kind (N.Network.means net.now) loads.now via.now from to amount path.new result }
-{
-    let mut at = to;
-    let mut left = amount;
-    for i in 0..path.len() {
-        if at == from {
-            return Some(Trail {
-                len: i,
-                amount: left,
-            });
+impl<'a, N: Network> Loaded<'a, N> {
+    // Follows the noted steps back from `to` to a start, and puts them on the path. The amount is the smallest of `amount` and their rooms.
+    // None if they do not come to a start before the path is full.
+    pub(crate) fn trace(
+        &self,
+        notes: &[Note],
+        path: &mut [Step],
+        to: usize,
+        amount: u32,
+    ) -> Option<Trail>
+        ensures fits { IfSome result (λ trail. trail.len < length path.new) }
+        ensures trails { Trails N.Cost.Cost.kind (N.Network.means self.now.net.now) self.now.loads.now notes.now to amount path.new result }
+    {
+        let mut at = to;
+        let mut left = amount;
+        for (len, slot) in path.iter_mut().enumerate() {
+            match *notes.get(at)? {
+                Note::Unseen => return None,
+                Note::Start => return Some(Trail { len, amount: left }),
+                Note::Via(step) => {
+                    let leg = self.leg(step)?;
+                    *slot = step;
+                    left = left.min(leg.room);
+                    at = leg.from;
+                }
+            }
         }
-        if at >= via.len() {
-            return None;
-        }
-        let step = via[at];
-        let Some(leg) = leg_of(net, loads, step) else {
-            return None;
-        };
-        path[i] = step;
-        left = left.min(leg.room);
-        at = leg.from;
+        None
     }
-    None
 }

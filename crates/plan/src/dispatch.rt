@@ -1,22 +1,22 @@
-ghost use Rattle.std.specs.Prelude.{◌≡◌, ◌+◌, ◌<◌, min, pos, ◌+ℤ◌, ◌-ℤ◌, neg_ℤ, ◌≤ℤ◌, ◌<ℤ◌, vec_len};
+ghost use Rattle.std.specs.Prelude.{◌≡◌, ◌+◌, ◌<◌, min, pos, ◌+ℤ◌, ◌-ℤ◌, neg_ℤ, ◌≤ℤ◌, ◌<ℤ◌, None, vec_len};
+ghost use Rattle.plan.specs.Checks.{net_fault};
 ghost use Rattle.plan.specs.Rules.{most_counted};
 ghost use Rattle.plan.specs.Sendings.{Smaller, Asked, Moved, AsLong, Dispatched};
 ghost use Rattle.plan.specs.Tables.{MadeFor, state_of};
 
-use super::back::trace;
+use super::loaded::Loaded;
 use super::sending::send;
 use super::table::Table;
+use costs::Cost;
 use networks::Network;
 
 // The smaller of what one place has and what another wants.
 fn smaller(have: i64, want: i64) -> u32
     ensures { pos 0 <ℤ have → have ≤ℤ pos 1000000000 → want <ℤ pos 0 → Smaller have want result }
 {
-    let most = have.unsigned_abs().min(want.unsigned_abs());
-    if most > 1_000_000_000 {
-        return 0;
-    }
-    most as u32
+    have.unsigned_abs()
+        .min(want.unsigned_abs())
+        .min(1_000_000_000) as u32
 }
 
 // One route more. The number stays at the greatest that is counted.
@@ -63,28 +63,24 @@ impl Table {
 
     // Sends from `from` to `to` along the steps noted by a search, as much as they can bear and the rests ask for. That amount.
     pub(crate) fn dispatch<N: Network>(&mut self, net: &N, from: usize, to: usize) -> u32
+        requires fair { net_fault N.Cost.Cost.kind (N.Network.means net.now) ≡ None }
         requires made { MadeFor (N.Network.means net.now) self.old }
         requires places { (from < (N.Network.means net.now).places) × (to < (N.Network.means net.now).places) }
         ensures long { AsLong self.old self.new }
         ensures sent { Dispatched N.Cost.Cost.kind (N.Network.means net.now) self.old from to result (state_of self.new) }
     {
         let asked = self.asked(from, to);
-        let path = self.path.as_mut_slice();
-        let Some(trail) = trace(
+        let loaded = Loaded {
             net,
-            self.loads.as_slice(),
-            self.via.as_slice(),
-            path,
-            from,
-            to,
-            asked,
-        ) else {
+            loads: self.loads.as_slice(),
+        };
+        let path = self.path.as_mut_slice();
+        let Some(trail) = loaded.trace(self.notes.as_slice(), path, to, asked) else {
             return 0;
         };
         send(
             self.loads.as_mut_slice(),
-            self.path.as_slice(),
-            trail.len,
+            &self.path.as_slice()[..trail.len],
             trail.amount,
         );
         self.move_rests(to, from, trail.amount);

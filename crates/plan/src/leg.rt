@@ -1,47 +1,42 @@
-ghost use Rattle.std.specs.Prelude.{◌≤◌, length};
-ghost use Rattle.plan.specs.Trails.{Begins};
+ghost use Rattle.plan.specs.Legs.{LegOf};
 
+use super::loaded::Loaded;
 use super::step::Step;
+use costs::Cost;
 use networks::Network;
 
-// Where a step begins, and how much room it has.
+// Where a step leads from and to, at what cost, and how much room it has.
 #[derive(Clone, Copy)]
-pub(crate) struct Leg {
+pub(crate) struct Leg<C> {
     pub(crate) from: usize,
+    pub(crate) to: usize,
+    pub(crate) cost: C,
     pub(crate) room: u32,
 }
 
-// The leg of a step, if the step has room.
-pub(crate) fn leg_of<N: Network>(net: &N, loads: &[u32], step: Step) -> Option<Leg>
-    requires { length (N.Network.means net.now).ways ≤ length loads.now }
-    ensures { Begins N.Cost.Cost.kind (N.Network.means net.now) loads.now step result }
-{
-    match step {
-        Step::Ahead(k) => {
-            let Some(ends) = net.way(k) else {
-                return None;
-            };
-            let load = loads[k];
-            if load >= ends.limit {
-                return None;
-            }
-            Some(Leg {
+impl<'a, N: Network> Loaded<'a, N> {
+    // The leg of a step, if the step has room.
+    pub(crate) fn leg(&self, step: Step) -> Option<Leg<N::Cost>>
+        ensures { LegOf N.Cost.Cost.kind (N.Network.means self.now.net.now) self.now.loads.now step result }
+    {
+        let k = step.way();
+        let ends = self.net.way(k)?;
+        let cost = self.net.cost(k)?;
+        let load = self.loads[k];
+        let leg = match step {
+            Step::Ahead(_) => Leg {
                 from: ends.tail,
-                room: ends.limit - load,
-            })
-        }
-        Step::Back(k) => {
-            let Some(ends) = net.way(k) else {
-                return None;
-            };
-            let load = loads[k];
-            if load == 0 {
-                return None;
-            }
-            Some(Leg {
+                to: ends.head,
+                cost,
+                room: ends.limit.saturating_sub(load),
+            },
+            Step::Back(_) => Leg {
                 from: ends.head,
+                to: ends.tail,
+                cost: cost.opposite(),
                 room: load,
-            })
-        }
+            },
+        };
+        (leg.room > 0).then_some(leg)
     }
 }

@@ -1,11 +1,11 @@
 ghost use Rattle.std.specs.Prelude.{◌≡◌, ◌<◌, ◌≤◌, length, drop, IfSome, None, vec_len};
-ghost use Rattle.plan.specs.Checks.{net_fault};
 ghost use Rattle.plan.specs.Entries.{tables};
 ghost use Rattle.plan.specs.Nearest.{Nearest};
-ghost use Rattle.plan.specs.Tables.{Same, MadeFor, state_of};
+ghost use Rattle.plan.specs.Tables.{Ready, Same, state_of};
 
-use super::front::distances;
+use super::loaded::Loaded;
 use super::pick::cheapest;
+use super::starts::Starts;
 use super::table::Table;
 use costs::Cost;
 use networks::Network;
@@ -18,26 +18,19 @@ impl Table {
         work: &mut [<N::Cost as Cost>::Row],
         from: usize,
     ) -> Option<usize>
-        requires fair { net_fault N.Cost.Cost.kind (N.Network.means net.now) ≡ None }
-        requires made { MadeFor (N.Network.means net.now) self.old }
-        requires work { (N.Network.means net.now).places ≤ length work.old }
+        requires ready { Ready N.Cost.Cost.kind (N.Network.means net.now) self.old (length work.old) }
         requires place { from < (N.Network.means net.now).places }
         ensures same { Same self.old self.new }
         ensures past { drop (N.Network.means net.now).places work.new ≡ drop (N.Network.means net.now).places work.old }
         ensures place { IfSome result (λ v. v < (N.Network.means net.now).places) }
         ensures nearest { Nearest N.Cost.Cost.kind (N.Network.means net.now) (state_of self.old) from
-            (tables work.new self.new.seen.items self.new.via.items) result }
+            (tables work.new self.new.notes.items) result }
     {
-        let places = net.places();
-        distances(
+        let loaded = Loaded {
             net,
-            self.loads.as_slice(),
-            work,
-            self.seen.as_mut_slice(),
-            self.via.as_mut_slice(),
-            from,
-            places,
-        );
-        cheapest::<N::Cost>(self.rests.as_slice(), work, self.seen.as_slice())
+            loads: self.loads.as_slice(),
+        };
+        loaded.search(work, self.notes.as_mut_slice(), Starts::At(from));
+        cheapest::<N::Cost>(self.rests.as_slice(), work, self.notes.as_slice())
     }
 }

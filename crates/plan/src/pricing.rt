@@ -1,10 +1,10 @@
 ghost use Rattle.std.specs.Prelude.{◌≡◌, ◌≤◌, length, drop, None, MatchBool};
-ghost use Rattle.plan.specs.Checks.{net_fault};
 ghost use Rattle.plan.specs.Questions.{Priced};
 ghost use Rattle.plan.specs.Steps.{Losing};
-ghost use Rattle.plan.specs.Tables.{Same, MadeFor};
+ghost use Rattle.plan.specs.Tables.{Ready, Same};
 
-use super::front::prices;
+use super::loaded::Loaded;
+use super::starts::Starts;
 use super::table::Table;
 use costs::Cost;
 use networks::Network;
@@ -16,9 +16,7 @@ impl Table {
         net: &N,
         rows: &mut [<N::Cost as Cost>::Row],
     ) -> bool
-        requires fair { net_fault N.Cost.Cost.kind (N.Network.means net.now) ≡ None }
-        requires made { MadeFor (N.Network.means net.now) self.old }
-        requires rows { (N.Network.means net.now).places ≤ length rows.old }
+        requires { Ready N.Cost.Cost.kind (N.Network.means net.now) self.old (length rows.old) }
         ensures same { Same self.old self.new }
         ensures past { drop (N.Network.means net.now).places rows.new ≡ drop (N.Network.means net.now).places rows.old }
         ensures priced { MatchBool result
@@ -26,15 +24,11 @@ impl Table {
             × Priced N.Cost.Cost.kind (N.Network.means net.now) self.old.loads.items rows.old rows.new)
             (Losing N.Cost.Cost.kind (N.Network.means net.now) self.old.loads.items) }
     {
-        let places = net.places();
-        prices(
+        let loaded = Loaded {
             net,
-            self.loads.as_slice(),
-            rows,
-            self.seen.as_mut_slice(),
-            self.via.as_mut_slice(),
-            places,
-        )
+            loads: self.loads.as_slice(),
+        };
+        loaded.search(rows, self.notes.as_mut_slice(), Starts::Everywhere)
     }
 
     // Whether some ring costs less than zero.
@@ -43,9 +37,7 @@ impl Table {
         net: &N,
         work: &mut [<N::Cost as Cost>::Row],
     ) -> bool
-        requires fair { net_fault N.Cost.Cost.kind (N.Network.means net.now) ≡ None }
-        requires made { MadeFor (N.Network.means net.now) self.old }
-        requires work { (N.Network.means net.now).places ≤ length work.old }
+        requires { Ready N.Cost.Cost.kind (N.Network.means net.now) self.old (length work.old) }
         ensures same { Same self.old self.new }
         ensures past { drop (N.Network.means net.now).places work.new ≡ drop (N.Network.means net.now).places work.old }
         ensures decides { MatchBool result (Losing N.Cost.Cost.kind (N.Network.means net.now) self.old.loads.items)

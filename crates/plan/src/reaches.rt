@@ -2,7 +2,7 @@ ghost use Rattle.std.specs.Prelude.{◌≡◌, drop};
 ghost use Rattle.plan.specs.Plans.{OfRun, IfRefused};
 ghost use Rattle.plan.specs.Questions.{Reaches};
 
-use super::marking::mark_reach;
+use super::loaded::Loaded;
 use super::planner::Plan;
 use costs::Cost;
 use networks::{Network, Refusal};
@@ -25,7 +25,11 @@ impl<N: Network> Plan<N> {
         if table.len() < places {
             return Err(Refusal::ShortTable);
         }
-        mark_reach(&self.net, self.table.loads.as_slice(), table, place);
+        let loaded = Loaded {
+            net: &self.net,
+            loads: self.table.loads.as_slice(),
+        };
+        loaded.mark_reach(table, place);
         Ok(())
     }
 }

@@ -1,57 +1,46 @@
 ghost use Rattle.std.specs.Prelude.{◌≡◌, ℕ, ◌+◌, ◌<◌, ◌≤◌, length, if◌then◌else◌, Some, None, MatchBool};
 ghost use Rattle.costs.specs.Kind.{heaviest, values, weights};
-ghost use Rattle.plan.specs.Entries.{Level, Most, Better, noted, tables};
+ghost use Rattle.plan.specs.Entries.{Most, Better, is_seen, noted, tables};
 ghost use Rattle.plan.specs.Sweeps.{Swept, One};
 
+use super::leg::Leg;
+use super::note::Note;
 use super::step::Step;
 use costs::Cost;
-use std::cmp::Ordering;
 
-// Whether `next` is less than the entry of a place with that mark and row, or there is none.
-fn improves<C: Cost>(next: C, marked: bool, row: C::Row) -> bool
+// Whether `next` is less than the entry of a place with that note and row, or there is none.
+fn improves<C: Cost>(next: C, note: Note, row: C::Row) -> bool
     ensures { MatchBool result
-        (Better C.Cost.kind.group (if marked then Some (values C.Cost.kind row) else None) (C.Cost.kind.value next))
-        (Most C.Cost.kind.group (if marked then Some (values C.Cost.kind row) else None) (C.Cost.kind.value next)) }
+        (Better C.Cost.kind.group (if is_seen note then Some (values C.Cost.kind row) else None) (C.Cost.kind.value next))
+        (Most C.Cost.kind.group (if is_seen note then Some (values C.Cost.kind row) else None) (C.Cost.kind.value next)) }
 {
-    if !marked {
-        return true;
-    }
-    if let Ordering::Less = next.compare(C::read(row)) {
-        true
-    } else {
-        false
-    }
+    !note.is_seen() || next.compare(C::read(row)).is_lt()
 }
 
-// Lowers the entry of `to` to that of `from` plus `cost`, if that is less, and says whether it did.
+// Lowers the entry of the place to which the leg of a step leads, if that way there costs less, and says whether it did.
 pub(crate) fn relax<C: Cost>(
     rows: &mut [C::Row],
-    seen: &mut [bool],
-    via: &mut [Step],
+    notes: &mut [Note],
     step: Step,
-    from: usize,
-    to: usize,
-    cost: C,
+    leg: Leg<C>,
 ) -> bool
-    requires within { (from < length rows.old) × (to < length rows.old) }
-    requires level { Level (tables rows.old seen.old via.old) }
-    requires room { (w : ℕ) → noted (weights C.Cost.kind) (tables rows.old seen.old via.old) from ≡ Some w →
-        w + C.Cost.kind.weighs cost ≤ heaviest }
-    ensures { Swept C.Cost.kind (One C.Cost.kind step from to (C.Cost.kind.value cost)) (One C.Cost.kind step from to (C.Cost.kind.value cost)) (C.Cost.kind.weighs cost)
-        (tables rows.old seen.old via.old)
-        (tables rows.new seen.new via.new) result }
+    requires within { (leg.from < length rows.old) × (leg.to < length rows.old) }
+    requires level { length notes.old ≡ length rows.old }
+    requires room { (w : ℕ) → noted (weights C.Cost.kind) (tables rows.old notes.old) leg.from ≡ Some w →
+        w + C.Cost.kind.weighs leg.cost ≤ heaviest }
+    ensures { Swept C.Cost.kind (One C.Cost.kind step leg.from leg.to (C.Cost.kind.value leg.cost)) (One C.Cost.kind step leg.from leg.to (C.Cost.kind.value leg.cost))
+        (C.Cost.kind.weighs leg.cost) (tables rows.old notes.old) (tables rows.new notes.new) result }
 {
-    if !seen[from] {
+    if !notes[leg.from].is_seen() {
         return false;
     }
-    let Some(next) = C::read(rows[from]).plus(cost) else {
+    let Some(next) = C::read(rows[leg.from]).plus(leg.cost) else {
         return false;
     };
-    if !improves::<C>(next, seen[to], rows[to]) {
+    if !improves::<C>(next, notes[leg.to], rows[leg.to]) {
         return false;
     }
-    rows[to] = next.row();
-    seen[to] = true;
-    via[to] = step;
+    rows[leg.to] = next.row();
+    notes[leg.to] = Note::Via(step);
     true
 }

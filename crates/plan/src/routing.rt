@@ -1,9 +1,8 @@
 ghost use Rattle.std.specs.Prelude.{◌≡◌, ◌≤◌, length, drop, None};
-ghost use Rattle.plan.specs.Checks.{net_fault};
 ghost use Rattle.plan.specs.Routings.{Routes};
 ghost use Rattle.plan.specs.Sendings.{AsLong};
 ghost use Rattle.plan.specs.Standing.{Standing};
-ghost use Rattle.plan.specs.Tables.{MadeFor, state_of};
+ghost use Rattle.plan.specs.Tables.{Ready, state_of};
 
 use super::calls::Routed;
 use super::pick::source;
@@ -18,9 +17,7 @@ impl Table {
         net: &N,
         work: &mut [<N::Cost as Cost>::Row],
     ) -> Routed
-        requires fair { net_fault N.Cost.Cost.kind (N.Network.means net.now) ≡ None }
-        requires made { MadeFor (N.Network.means net.now) self.old }
-        requires work { (N.Network.means net.now).places ≤ length work.old }
+        requires { Ready N.Cost.Cost.kind (N.Network.means net.now) self.old (length work.old) }
         ensures long { AsLong self.old self.new }
         ensures past { drop (N.Network.means net.now).places work.new ≡ drop (N.Network.means net.now).places work.old }
         ensures routed { Standing N.Cost.Cost.kind (N.Network.means net.now) (state_of self.old) →

@@ -1,53 +1,33 @@
-ghost use Rattle.std.specs.Prelude.{◌≡◌, ◌<◌, ◌≤◌, length};
-ghost use Rattle.plan.specs.Entries.{Level, Fits, tables};
+ghost use Rattle.std.specs.Prelude.{◌≡◌, ℕ, ◌<◌, ◌≤◌, length, drop};
+ghost use Rattle.plan.specs.Entries.{front, tables};
 ghost use Rattle.plan.specs.Searches.{Searched};
+ghost use Rattle.plan.specs.Starts.{IsStart};
 
-use super::rounds::rounds;
-use super::start::{start_all, start_at};
-use super::step::Step;
+use super::loaded::Loaded;
+use super::note::Note;
+use super::start::start;
+use super::starts::Starts;
 use costs::Cost;
 use networks::Network;
 
-// Searches from `from`, by at most `limit` scans. True if the last scan changed nothing.
-pub(crate) fn from_place<N: Network>(
-    net: &N,
-    loads: &[u32],
-    rows: &mut [<N::Cost as Cost>::Row],
-    seen: &mut [bool],
-    via: &mut [Step],
-    from: usize,
-    limit: usize,
-) -> bool
-    requires loaded { length (N.Network.means net.now).ways ≤ length loads.now }
-    requires level { Level (tables rows.old seen.old via.old) }
-    requires fit { Fits N.Cost.Cost.kind (length rows.old) (N.Network.means net.now).ways }
-    requires few { length (N.Network.means net.now).ways ≤ 3000 }
-    requires short { limit ≤ 1024 }
-    requires within { from < length rows.old }
-    ensures { Searched N.Cost.Cost.kind (N.Network.means net.now) loads.now (λ v. v ≡ from) limit
-        (tables rows.new seen.new via.new) result }
-{
-    start_at::<N::Cost>(rows, seen, from);
-    rounds(net, loads, rows, seen, via, limit)
-}
-
-// Searches from every place, by at most `limit` scans. True if the last scan changed nothing.
-pub(crate) fn from_everywhere<N: Network>(
-    net: &N,
-    loads: &[u32],
-    rows: &mut [<N::Cost as Cost>::Row],
-    seen: &mut [bool],
-    via: &mut [Step],
-    limit: usize,
-) -> bool
-    requires loaded { length (N.Network.means net.now).ways ≤ length loads.now }
-    requires level { Level (tables rows.old seen.old via.old) }
-    requires fit { Fits N.Cost.Cost.kind (length rows.old) (N.Network.means net.now).ways }
-    requires few { length (N.Network.means net.now).ways ≤ 3000 }
-    requires short { limit ≤ 1024 }
-    ensures { Searched N.Cost.Cost.kind (N.Network.means net.now) loads.now (λ v. v < length rows.old) limit
-        (tables rows.new seen.new via.new) result }
-{
-    start_all::<N::Cost>(rows, seen);
-    rounds(net, loads, rows, seen, via, limit)
+impl<'a, N: Network> Loaded<'a, N> {
+    // Works out what is cheapest from a start to each place. True if the last scan changed nothing. Rows past the last place stay.
+    pub(crate) fn search(
+        &self,
+        rows: &mut [<N::Cost as Cost>::Row],
+        notes: &mut [Note],
+        starts: Starts,
+    ) -> bool
+        requires rows { (N.Network.means self.now.net.now).places ≤ length rows.old }
+        requires notes { length notes.old ≡ (N.Network.means self.now.net.now).places }
+        requires inside { (v : ℕ) → IsStart (N.Network.means self.now.net.now).places starts v → v < (N.Network.means self.now.net.now).places }
+        ensures found { Searched N.Cost.Cost.kind (N.Network.means self.now.net.now) self.now.loads.now
+            (IsStart (N.Network.means self.now.net.now).places starts)
+            (front (N.Network.means self.now.net.now).places (tables rows.new notes.new)) result }
+        ensures past { drop (N.Network.means self.now.net.now).places rows.new ≡ drop (N.Network.means self.now.net.now).places rows.old }
+    {
+        let rows = &mut rows[..self.net.places()];
+        start::<N::Cost>(rows, notes, starts);
+        self.rounds(rows, notes)
+    }
 }

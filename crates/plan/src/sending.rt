@@ -1,6 +1,6 @@
-ghost use Rattle.std.specs.Prelude.{◌≡◌, ◌≤◌, [], ◌∷◌, length};
+ghost use Rattle.std.specs.Prelude.{◌≡◌, [], ◌∷◌, reverse, length};
 ghost use Rattle.plan.specs.Rules.{along};
-ghost use Rattle.plan.specs.Trails.{on_path, Bears};
+ghost use Rattle.plan.specs.Trails.{Bears};
 
 use super::step::Step;
 
@@ -9,27 +9,22 @@ fn send_step(loads: &mut [u32], step: Step, amount: u32)
     ensures long { length loads.new ≡ length loads.old }
     ensures sent { Bears amount (step ∷ []) loads.old → loads.new ≡ along amount (step ∷ []) loads.old }
 {
-    match step {
-        Step::Ahead(k) => {
-            if k < loads.len() {
-                loads[k] = loads[k].saturating_add(amount);
-            }
-        }
-        Step::Back(k) => {
-            if k < loads.len() {
-                loads[k] = loads[k].saturating_sub(amount);
-            }
-        }
+    // Of a write through `get_mut` of a slice a proof knows nothing.
+    let k = step.way();
+    if k < loads.len() {
+        loads[k] = match step {
+            Step::Ahead(_) => loads[k].saturating_add(amount),
+            Step::Back(_) => loads[k].saturating_sub(amount),
+        };
     }
 }
 
-// Sends the amount along the first `len` steps of a path, the last of which begins the route.
-pub(crate) fn send(loads: &mut [u32], path: &[Step], len: usize, amount: u32)
+// Sends the amount along a path, the last step of which begins the route.
+pub(crate) fn send(loads: &mut [u32], path: &[Step], amount: u32)
     ensures long { length loads.new ≡ length loads.old }
-    ensures sent { len ≤ length path.now → Bears amount (on_path len path.now) loads.old →
-        loads.new ≡ along amount (on_path len path.now) loads.old }
+    ensures sent { Bears amount (reverse path.now) loads.old → loads.new ≡ along amount (reverse path.now) loads.old }
 {
-    for i in (0..len.min(path.len())).rev() {
-        send_step(loads, path[i], amount);
+    for &step in path.iter().rev() {
+        send_step(loads, step, amount);
     }
 }

@@ -1,9 +1,8 @@
 ghost use Rattle.std.specs.Prelude.{◌≡◌, ◌≤◌, length, drop, None};
-ghost use Rattle.plan.specs.Checks.{net_fault};
 ghost use Rattle.plan.specs.Routings.{Settles};
 ghost use Rattle.plan.specs.Sendings.{AsLong};
 ghost use Rattle.plan.specs.Standing.{Standing};
-ghost use Rattle.plan.specs.Tables.{MadeFor, state_of};
+ghost use Rattle.plan.specs.Tables.{Ready, state_of};
 
 use super::calls::{Ending, Outcome, Routed};
 use super::pick::source;
@@ -19,9 +18,7 @@ impl Table {
         work: &mut [<N::Cost as Cost>::Row],
         budget: u32,
     ) -> Outcome
-        requires fair { net_fault N.Cost.Cost.kind (N.Network.means net.now) ≡ None }
-        requires made { MadeFor (N.Network.means net.now) self.old }
-        requires work { (N.Network.means net.now).places ≤ length work.old }
+        requires { Ready N.Cost.Cost.kind (N.Network.means net.now) self.old (length work.old) }
         ensures long { AsLong self.old self.new }
         ensures past { drop (N.Network.means net.now).places work.new ≡ drop (N.Network.means net.now).places work.old }
         ensures settled { Standing N.Cost.Cost.kind (N.Network.means net.now) (state_of self.old) →

@@ -1,29 +1,30 @@
-ghost use Rattle.std.specs.Prelude.{◌≡◌, ◌<◌, List, length};
-ghost use Rattle.plan.specs.declared.step.Step.{Step};
+ghost use Rattle.std.specs.Prelude.{◌≡◌, ℕ, ◌<◌, length};
 ghost use Rattle.plan.specs.Entries.{tables};
-ghost use Rattle.plan.specs.Starts.{Zeros};
+ghost use Rattle.plan.specs.Starts.{Zeros, IsStart};
 
+use super::note::Note;
+use super::starts::Starts;
 use costs::Cost;
 
-// Marks `from` alone, with zero in its row.
-pub(crate) fn start_at<C: Cost>(rows: &mut [C::Row], seen: &mut [bool], from: usize)
-    requires within { from < length rows.old }
-    requires level { length seen.old ≡ length rows.old }
-    ensures { (via : List Step) → Zeros C.Cost.kind (λ v. v ≡ from) (tables rows.new seen.new via) }
+// Notes the starts, and no other place, with zero in their rows.
+pub(crate) fn start<C: Cost>(rows: &mut [C::Row], notes: &mut [Note], starts: Starts)
+    requires level { length notes.old ≡ length rows.old }
+    requires inside { (v : ℕ) → IsStart (length rows.old) starts v → v < length rows.old }
+    ensures { Zeros C.Cost.kind (IsStart (length rows.old) starts) (tables rows.new notes.new) }
 {
-    seen.fill(false);
-    seen[from] = true;
-    rows[from] = C::zero().row();
-}
-
-// Marks every place, with zero in its row.
-pub(crate) fn start_all<C: Cost>(rows: &mut [C::Row], seen: &mut [bool])
-    requires level { length seen.old ≡ length rows.old }
-    ensures { (via : List Step) → Zeros C.Cost.kind (λ v. v < length rows.old) (tables rows.new seen.new via) }
-{
-    seen.fill(true);
     let zero = C::zero().row();
-    for row in rows.iter_mut() {
-        *row = zero;
+    match starts {
+        Starts::At(from) => {
+            notes.fill(Note::Unseen);
+            notes[from] = Note::Start;
+            rows[from] = zero;
+        }
+        Starts::Everywhere => {
+            notes.fill(Note::Start);
+            // `fill` would clone, and of the rows of a kind of cost no clone is promised.
+            for row in rows.iter_mut() {
+                *row = zero;
+            }
+        }
     }
 }

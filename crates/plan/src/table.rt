@@ -1,5 +1,6 @@
 ghost use Rattle.std.specs.Prelude.{◌≡◌, vec_len};
 
+use super::note::Note;
 use super::step::Step;
 
 // What a plan over a network of so many places and ways works on: it is made once, so that no call can want memory.
@@ -8,8 +9,7 @@ pub(crate) struct Table {
     pub(crate) loads: Vec<u32>,
     pub(crate) rests: Vec<i64>,
     pub(crate) count: u32,
-    pub(crate) seen: Vec<bool>,
-    pub(crate) via: Vec<Step>,
+    pub(crate) notes: Vec<Note>,
     pub(crate) path: Vec<Step>,
-    ghost level: { (vec_len seen ≡ vec_len rests) × (vec_len via ≡ vec_len rests) × (vec_len path ≡ vec_len rests) },
+    ghost level: { (vec_len notes ≡ vec_len rests) × (vec_len path ≡ vec_len rests) },
 }

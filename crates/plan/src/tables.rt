@@ -1,5 +1,6 @@
 ghost use Rattle.std.specs.Prelude.{◌≡◌, replicate, pos, IfOk};
 
+use super::note::Note;
 use super::step::Step;
 use super::table::Table;
 use std::alloc::{AllocError, Global};
@@ -10,15 +11,13 @@ impl Table {
     {
         let loads = vec![in heap; 0u32; ways]?;
         let rests = vec![in heap; 0i64; places]?;
-        let seen = vec![in heap; false; places]?;
-        let via = vec![in heap; Step::Ahead(0); places]?;
+        let notes = vec![in heap; Note::Unseen; places]?;
         let path = vec![in heap; Step::Ahead(0); places]?;
         Ok(Table {
             loads,
             rests,
             count: 0,
-            seen,
-            via,
+            notes,
             path,
         })
     }

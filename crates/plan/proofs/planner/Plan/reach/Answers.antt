@@ -1,7 +1,5 @@
-use Rattle.std.proofs.Common.{refl, arith}
-use Rattle.plan.proofs.Deciding.{passed}
+use Rattle.std.proofs.Common.{refl, ◌∙◌, arith}
 use Rattle.plan.proofs.Reaching.{reach_closed, reach_no_place, reach_short, reach_done}
-use Rattle.plan.proofs.Standing.{inside}
 use Rattle.plan.proofs.planner.Plan.reach.Goals as goal
 
 pub returns-then-not-usable : goal.returns-then-not-usable
@@ -31,18 +29,15 @@ returns-then-table-places g c =
           (omega (arith, n, c.if-place-places.false)) (omega (arith, n, c.if-table-places.true));
     }
 
+pub invariant_of-loaded : goal.invariant_of-loaded
+invariant_of-loaded g c =
+    let usable = c.if-not-usable.ensures in
+    record { fair = usable.fair; long = c.as_slice.ensures.len ∙ usable.made.loads }
+
 pub mark_reach-requires : goal.mark_reach-requires
 mark_reach-requires g c =
-    let K = g.N.Cost.Cost.kind in
-    let net = g.N.Network.means c.args.self.now.net in
-    let usable = c.if-not-usable.ensures in
     let n = c.places-places.ensures in
-    record {
-      loaded = omega (arith, usable.made.loads, c.as_slice.ensures.len);
-      inside = inside K net (passed K net usable.fair);
-      long = omega (arith, n, c.if-table-places.false);
-      within = omega (arith, n, c.if-place-places.false);
-    }
+    record { long = omega (arith, n, c.if-table-places.false); within = omega (arith, n, c.if-place-places.false) }
 
 pub returns : goal.returns
 returns g c =
@@ -51,5 +46,5 @@ returns g c =
       past = c.mark_reach.ensures.past;
       refused = tt;
       reaches = λ h r. reach_done g.N.Cost.Cost.kind (g.N.Network.means c.args.self.now.net) c.args.self.now c.args.place c.args.table.now c.if-not-usable.ensures.opened
-          (omega (arith, n, c.if-place-places.false)) (omega (arith, n, c.if-table-places.false)) _ c.mark_reach.new.marks c.as_slice.ensures.value c.mark_reach.ensures;
+          (omega (arith, n, c.if-place-places.false)) (omega (arith, n, c.if-table-places.false)) _ c.mark_reach.new.table c.as_slice.ensures.value c.mark_reach.ensures;
     }

@@ -13,7 +13,7 @@ returns-in_default g c =
     record {
       long = record { loads = refl; rests = refl };
       sent = none_by g.N.Cost.Cost.kind (g.N.Network.means c.args.net.now) c.args.self.now c.args.from c.args.to _ _ c.as_slice.ensures.value c.as_slice-2.ensures.value _
-          (λ rows seen y ended. c.in_default.ensures rows seen y ended (omega arith));
+          (λ rows y ended. c.in_default.ensures.trails rows c.args.from y ended (omega arith));
     }
 
 pub returns : goal.returns
@@ -29,5 +29,5 @@ returns g c =
       sent = dispatched_by g.N.Cost.Cost.kind (g.N.Network.means c.args.net.now) c.args.self.now c.args.from c.args.to c.asked-asked.result c.in-Some.trail
           _ _ _ _ _ c.trace.new.path _ _ _ c.as_slice.ensures.value c.as_mut_slice.ensures.value (ap vec_items c.move_rests.ensures.same.0 ∙ loads) c.as_slice-2.ensures.value (c.as_slice-3.ensures.value ∙ path)
           c.asked-asked.ensures
-          (λ rows seen y ended. c.in-Some.ensures rows seen y ended (omega arith)) c.send.ensures.sent c.move_rests.ensures.moved (c.one_more-self.ensures ∙ ap (λ n. min (n + 1) most_counted) c.move_rests.ensures.same.1.0);
+          (λ rows y ended. c.in-Some.ensures.trails rows c.args.from y ended (omega arith)) c.send.ensures.sent c.move_rests.ensures.moved (c.one_more-self.ensures ∙ ap (λ n. min (n + 1) most_counted) c.move_rests.ensures.same.1.0);
     }

@@ -1,16 +1,17 @@
-use Rattle.std.proofs.Common.{◌<◌, vec_items, vec_len, refl, ap, ◌∙◌, subst}
+use Rattle.std.proofs.Common.{◌<◌, vec_len, refl, ap, ◌∙◌, subst}
 use Rattle.plan.specs.Picks.{Spent, Lowest}
 use Rattle.plan.specs.Tables.{state_of}
 use Rattle.plan.proofs.Routings.{source_by, rest_by, same_state, sent_by}
 use Rattle.plan.proofs.table.Table.route.Goals as goal
 
 pub nearest-requires : goal.nearest-requires
-nearest-requires g c = record { fair = c.requires.fair; made = c.requires.made; work = c.requires.work; place = subst (λ n. c.in-Some.from < n) (c.as_slice.ensures.len ∙ c.requires.made.rests) c.in-Some.ensures.place }
+nearest-requires g c = record { ready = c.requires; place = subst (λ n. c.in-Some.from < n) (c.as_slice.ensures.len ∙ c.requires.made.rests) c.in-Some.ensures.place }
 
 pub dispatch-amount-requires : goal.dispatch-amount-requires
 dispatch-amount-requires g c =
     let same = c.in-Some-nearest.ensures.same in
     record {
+      fair = c.requires.fair;
       made = record { loads = ap vec_len same.loads ∙ c.requires.made.loads; rests = ap vec_len same.rests ∙ c.requires.made.rests };
       places = (subst (λ n. c.in-Some.from < n) (c.as_slice.ensures.len ∙ c.requires.made.rests) c.in-Some.ensures.place, c.in-Some-nearest.ensures.place);
     }
@@ -43,7 +44,7 @@ returns g c =
       long = record { loads = sent.long.loads ∙ ap vec_len near.same.loads; rests = sent.long.rests ∙ ap vec_len near.same.rests };
       past = near.past;
       routed = λ stands. sent_by g.N.Cost.Cost.kind (g.N.Network.means c.args.net.now) c.args.self.now c.nearest.new.self near.same c.in-Some.from c.in-Some-nearest.to c.dispatch-amount.result
-          c.nearest.new.work (vec_items c.nearest.new.self.seen) (state_of c.dispatch-amount.new.self)
+          c.nearest.new.work (state_of c.dispatch-amount.new.self)
           (source_by g.N.Cost.Cost.kind (g.N.Network.means c.args.net.now) (state_of c.args.self.now) stands.whole (subst (λ rs. Lowest rs c.in-Some.from) c.as_slice.ensures.value c.in-Some.ensures))
           near.nearest sent.sent stands;
     }

@@ -1,8 +1,0 @@
--- The steps on the path lead from where the loop has come to.
-use Rattle.plan.specs.Trails.{on_path}
-use Rattle.plan.proofs.Trailing.{SoFarBy}
-use Rattle.plan.proofs.back.trace.Given as goal
-
-abbrev pub invariant-loop-i : goal.invariant-loop-i
-invariant-loop-i g l =
-    SoFarBy g.N.Cost.Cost.kind (g.N.Network.means l.net) l.loads l.via l.from l.to l.amount (on_path l.i l.path) l.at l.left

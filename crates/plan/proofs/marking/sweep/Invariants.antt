@@ -1,9 +1,0 @@
--- After k ways the marks have spread along their steps.
-use Rattle.std.proofs.Common.{◌<◌}
-use Rattle.plan.specs.Marks.{Spread}
-use Rattle.plan.specs.Sweeps.{way_of}
-use Rattle.plan.proofs.marking.sweep.Given as goal
-
-abbrev pub invariant-loop-k : goal.invariant-loop-k
-invariant-loop-k g l =
-    Spread g.N.Cost.Cost.kind (g.N.Network.means l.net) l.loads (λ s. way_of s < l.k) l.initial.marks l.marks l.changed

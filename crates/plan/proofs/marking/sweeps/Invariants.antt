@@ -1,7 +1,0 @@
--- What holds after each sweep.
-use Rattle.plan.specs.Marks.{Spreads}
-use Rattle.plan.proofs.marking.sweeps.Given as goal
-
-abbrev pub invariant-loop-i : goal.invariant-loop-i
-invariant-loop-i g l =
-    Spreads g.N.Cost.Cost.kind (g.N.Network.means l.net) l.loads l._i l.initial.marks l.marks

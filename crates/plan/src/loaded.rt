@@ -1,0 +1,14 @@
+ghost use Rattle.std.specs.Prelude.{◌≡◌, length, None};
+ghost use Rattle.plan.specs.Checks.{net_fault};
+
+use costs::Cost;
+use networks::Network;
+
+// A network that passed the checks, and a load for each of its ways.
+#[derive(Drop)]
+pub(crate) struct Loaded<'a, N: Network> {
+    pub(crate) net: &'a N,
+    pub(crate) loads: &'a [u32],
+    ghost fair: { net_fault N.Cost.Cost.kind (N.Network.means net.now) ≡ None },
+    ghost long: { length loads.now ≡ length (N.Network.means net.now).ways },
+}
