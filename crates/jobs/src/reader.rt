@@ -1,5 +1,8 @@
 ghost use Rattle.std.specs.Prelude.{◌≤◌, length};
 
+// How many bytes a file may have.
+pub const LONGEST: usize = 60_000;
+
 // What a reader looks for next: `Ways` has how many ways are still to come, at least one.
 #[derive(Clone, Copy)]
 pub(crate) enum Stage {
