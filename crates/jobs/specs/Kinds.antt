@@ -19,8 +19,8 @@ kind_byte Group = 8
 kind_byte Last = 9
 
 -- what a byte tells: the kind that has it; or refused, exactly if none has
-abbrev pub Tells : ℕ → Result Kind Refusal → Type 0
-Tells b r = MatchResult r (λ k. kind_byte k ≡ b) (λ e. (e ≡ UnknownKind) × ((k : Kind) → kind_byte k ≢ b))
+abbrev pub Decodes : ℕ → Result Kind Refusal → Type 0
+Decodes b r = MatchResult r (λ k. kind_byte k ≡ b) (λ e. (e ≡ UnknownKind) × ((k : Kind) → kind_byte k ≢ b))
 
 abbrev pub body_length : Kind → ℕ
 body_length Head = 4

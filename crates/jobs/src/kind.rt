@@ -1,5 +1,5 @@
 ghost use Rattle.std.specs.Prelude.{◌≡◌, MatchOption, ◌≢◌};
-ghost use Rattle.jobs.specs.Kinds.{kind_byte, Tells, body_length};
+ghost use Rattle.jobs.specs.Kinds.{kind_byte, Decodes, body_length};
 
 use networks::Refusal;
 
@@ -20,7 +20,7 @@ pub enum Kind {
 impl TryFrom<u8> for Kind {
     type Error = Refusal;
 
-    ghost try_from_gives = { Tells };
+    ghost try_from_gives = { Decodes };
 
     fn try_from(byte: u8) -> Result<Self, Refusal> {
         match byte {

@@ -3,12 +3,12 @@ use Rattle.std.proofs.Common.{◌≡◌, ◌-◌, length, vec_len, string_bytes}
 use Rattle.jobs.specs.Sections.{section_net}
 use Rattle.jobs.proofs.Putting.{CameSo}
 use Rattle.jobs.proofs.Progress.{Come}
-use Rattle.jobs.proofs.job_run.run_job.Given as goal
+use Rattle.jobs.proofs.job_run.run.Given as goal
 
-abbrev pub invariant-loop-found : goal.invariant-loop-found
-invariant-loop-found l =
+abbrev pub invariant-loop-text : goal.invariant-loop-text
+invariant-loop-text l =
     (l.plan.net ≡ l.initial.plan.net) × (vec_len l.rows ≡ (section_net l.initial.plan.net).places)
     × Come l.initial.reader l.bytes (λ es. CameSo (section_net l.initial.plan.net) es (string_bytes l.text) l.plan) l.reader
 
-abbrev pub decreases-loop-found : goal.decreases-loop-found
-decreases-loop-found l = length l.reader.bytes.now - l.reader.offset
+abbrev pub decreases-loop-text : goal.decreases-loop-text
+decreases-loop-text l = length l.reader.bytes.now - l.reader.offset
