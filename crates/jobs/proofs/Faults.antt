@@ -3,7 +3,7 @@ use Rattle.std.proofs.Common.{◌≡◌, ℕ, List, [], ◌∷◌, ◌++◌, len
 use Rattle.jobs.specs.declared.entry.Entry.{Entry}
 use Rattle.jobs.specs.declared.form.Form.{Form}
 use Rattle.networks.specs.declared.refusal.Refusal.{Refusal}
-use Rattle.jobs.specs.Kinds.{body_len_lem}
+use Rattle.jobs.specs.Kinds.{body_length}
 use Rattle.jobs.specs.Entries.{kind_of, body_of, record_of}
 use Rattle.jobs.specs.Files.{written, Lawful, Good, InPlace, Wrong, unknown, misplaced, cut, missing, Faulty, too_long, after}
 use Rattle.jobs.proofs.Parsed.{one_kind, length_body, one_goes_on}
@@ -17,7 +17,7 @@ stuck f es _ zs _ e (misplaced k rest never) q p =
 stuck f es _ zs _ e (cut k rest i l) q p =
     let h = one_kind k (kind_of e) (cc) in
     let t : rest ≡ body_of e ++ zs = cc in
-    let m = length_body e ∙ ap body_len_lem (sym h) in
+    let m = length_body e ∙ ap body_length (sym h) in
     omega (arith, simp length-append at (ap length t))
 stuck f es _ zs _ e (missing never) q p = let z : ◌≡◌ {A = ℕ} 0 1 = cc in omega arith
 

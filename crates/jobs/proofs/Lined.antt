@@ -1,10 +1,9 @@
--- The words of a way, and that one record more is one line more.
-use Rattle.std.proofs.Common.{◌≡◌, ℕ, ◌+◌, ◌-◌, List, [], ◌∷◌, ◌++◌, length, ℤ, codes, decimal, sym, ap, ◌∙◌, append_assoc, append-nil, add-zero, zero-add, arith, length-append}
+-- One record more is one line more.
+use Rattle.std.proofs.Common.{◌≡◌, ℕ, ◌+◌, List, [], ◌∷◌, ◌++◌, length, sym, ap, ◌∙◌, append_assoc, append-nil, add-zero, zero-add, arith, length-append}
 use Rattle.jobs.specs.declared.entry.Entry.{Entry}
-use Rattle.jobs.specs.declared.entry.Entry.TheVariants.{Way}
 use Rattle.jobs.specs.Entries.{record_of}
 use Rattle.jobs.specs.Files.{written}
-use Rattle.jobs.specs.Listing.{words_of_cost_lem, words, line_of, lines_of}
+use Rattle.jobs.specs.Listing.{line_of, lines_of}
 
 lines_push : (i o : ℕ) (es : List Entry) (e : Entry) → lines_of i o (es ++ e ∷ []) ≡ lines_of i o es ++ line_of (i + length es) (o + length (written es)) e
 lines_push i o [] e = append-nil (line_of i o e) ∙ ap (λ j. line_of j o e) (sym (add-zero i)) ∙ ap (λ p. line_of (i + 0) p e) (sym (add-zero o))
@@ -21,14 +20,3 @@ one_line_more i o es e text line p q t l =
     let n : line_of i o e ≡ line_of (0 + length es) (0 + length (written es)) e =
     ap (λ k. line_of k o e) (p ∙ sym (zero-add (length es))) ∙ ap (λ k. line_of (0 + length es) k e) (q ∙ sym (zero-add (length (written es)))) in
     ap (λ ys. ys ++ line) t ∙ ap (λ ys. lines_of 0 0 es ++ ys) (l ∙ n) ∙ sym (lines_push 0 0 es e)
-
-regrouped : (a b c d e f g : List ℕ) → a ++ (b ++ (c ++ (d ++ (e ++ (f ++ g))))) ≡ a ++ b ++ c ++ d ++ e ++ f ++ g
-regrouped a b c d e f g = simp append_assoc
-
--- the words of a way, from its parts
-pub way_words : (i n t h l : ℕ) (r m : ℤ) (cost : List ℕ) → n ≡ i - 1 → cost ≡ words_of_cost_lem l r m →
-    codes "way " ++ (decimal n ++ (codes " from " ++ (decimal t ++ (codes " to " ++ (decimal h ++ cost))))) ≡ words i (Way t h l r m)
-way_words i n t h l r m cost p q =
-    ap (λ k. codes "way " ++ (decimal k ++ (codes " from " ++ (decimal t ++ (codes " to " ++ (decimal h ++ cost)))))) p
-    ∙ ap (λ ys. codes "way " ++ (decimal (i - 1) ++ (codes " from " ++ (decimal t ++ (codes " to " ++ (decimal h ++ ys)))))) q
-    ∙ regrouped (codes "way ") (decimal (i - 1)) (codes " from ") (decimal t) (codes " to ") (decimal h) (words_of_cost_lem l r m)

@@ -1,7 +1,5 @@
 -- A list of known length is the list of its elements, which is how a pattern on a slice reads them.
 use Rattle.std.proofs.Common.{◌≡◌, ℕ, zero, suc, List, [], ◌∷◌, length, get_or, refl, ap, ◌∙◌, arith}
-use Rattle.jobs.specs.declared.kind.Kind.{Kind}
-use Rattle.jobs.specs.Kinds.{body_len_lem}
 
 -- the n elements from place i on
 abbrev pub listed : ℕ → ℕ → List ℕ → List ℕ
@@ -17,7 +15,3 @@ listed_all zero [] e = refl
 listed_all zero (x ∷ xs) e = absurd (omega arith)
 listed_all (suc n) [] e = absurd (omega arith)
 listed_all (suc n) (x ∷ xs) e = ap (λ ys. x ∷ ys) (listed_past n 0 x xs ∙ listed_all n xs (omega arith))
-
--- a body of no bytes
-pub no_body : (k q : Kind) (xs : List ℕ) → length xs ≡ body_len_lem k → k ≡ q → body_len_lem q ≡ 0 → [] ≡ xs
-no_body k q xs e f g = listed_all 0 xs (e ∙ ap body_len_lem f ∙ g)

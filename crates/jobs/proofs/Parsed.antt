@@ -8,7 +8,7 @@ use Rattle.jobs.specs.declared.entry.Entry.TheVariants as entry
 use Rattle.jobs.specs.declared.kind.Kind.{Kind}
 use Rattle.jobs.specs.declared.kind.Kind.TheVariants as kind
 use Rattle.jobs.specs.Bytes.{two_bytes, unsigned}
-use Rattle.jobs.specs.Kinds.{kind_byte, body_len_lem}
+use Rattle.jobs.specs.Kinds.{kind_byte, body_length}
 use Rattle.jobs.specs.Entries.{kind_of, body_of, record_of, Fits, two_at, four_at, signed_at}
 use Rattle.jobs.specs.Files.{written}
 
@@ -33,7 +33,7 @@ kind_at_byte kind.Last = refl
 pub one_kind : (j k : Kind) → kind_byte j ≡ kind_byte k → j ≡ k
 one_kind j k e = sym (kind_at_byte j) ∙ ap kind_at e ∙ kind_at_byte k
 
-pub length_body : (e : Entry) → length (body_of e) ≡ body_len_lem (kind_of e)
+pub length_body : (e : Entry) → length (body_of e) ≡ body_length (kind_of e)
 length_body (entry.Head places ways) = refl
 length_body (entry.Way tail head limit redraws misfit) = refl
 length_body (entry.Book from to amount) = refl
@@ -110,7 +110,7 @@ one_record e e' xs ys f f' q =
     let b : kind_byte (kind_of e) ≡ kind_byte (kind_of e') = cc in
     let k = one_kind (kind_of e) (kind_of e') b in
     let t : body_of e ++ xs ≡ body_of e' ++ ys = cc in
-    let l : length (body_of e) ≡ length (body_of e') = length_body e ∙ ap body_len_lem k ∙ sym (length_body e') in
+    let l : length (body_of e) ≡ length (body_of e') = length_body e ∙ ap body_length k ∙ sym (length_body e') in
     let s = same_fronts (body_of e) (body_of e') xs ys l t in
     (sym (entry_back e f) ∙ ap (λ j. entry_at j (body_of e)) k ∙ ap (entry_at (kind_of e')) s.0 ∙ entry_back e' f', s.1)
 

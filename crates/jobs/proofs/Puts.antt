@@ -1,8 +1,10 @@
 -- A write to a part of a table puts the bytes there, and leaves the rest.
-use Rattle.std.proofs.Common.{◌≡◌, ℕ, ◌+◌, ◌-◌, List, [], ◌++◌, length, take, drop, sym, refl, ap, ◌∙◌, append_assoc, arith, length-append}
+use Rattle.std.proofs.Common.{◌≡◌, ℕ, ◌+◌, ◌-◌, ◌≤◌, List, [], ◌++◌, length, take, drop, Ok, Err, Result, sym, refl, ap, ◌∙◌, append_assoc, arith, length-append}
+use Rattle.std.specs.Result.{IsOk}
 use borrow.Rule.Slice.PartMut.{put_mid}
 use Rattle.std.proofs.lemmas.List.{drop-drop, take_at, drop_at}
-use Rattle.jobs.specs.Writing.{put_at}
+use Rattle.networks.specs.declared.refusal.Refusal.{Refusal}
+use Rattle.jobs.specs.Writing.{put_at, Writes}
 
 pub put_mid_lem : (xs ys bytes : List ℕ) (o e : ℕ) → ys ≡ bytes → e ≡ o + length bytes → put_mid o (e - o) xs ys ≡ put_at xs o bytes
 put_mid_lem xs ys bytes o e p q =
@@ -23,3 +25,8 @@ put_on t table xs ys o e p =
 
 pub put_none : (t : List ℕ) → t ≡ put_at t 0 []
 put_none t = refl
+
+-- what fits is written
+pub fitting : (bytes table then : List ℕ) (o : ℕ) (r : Result ℕ Refusal) → Writes bytes table o r then → o + length bytes ≤ length table → IsOk r
+fitting bytes table then o (Ok end) w l = refl
+fitting bytes table then o (Err e) (short, is, same) l = absurd (omega arith)

@@ -15,15 +15,15 @@ use Rattle.plan.specs.Law.{Trace, start}
 use Rattle.plan.specs.State.{State, Event, closed}
 use Rattle.jobs.specs.declared.entry.Entry.{Entry}
 use Rattle.jobs.specs.declared.entry.Entry.TheVariants as entry
-use Rattle.jobs.specs.JobRuns.{fits, call_of_lem, Silent, total_said, prices_said, event, Put, Puts, called, totalled, priced, silent, Said, opened, then}
+use Rattle.jobs.specs.JobRuns.{fits, asked_call, Silent, total_said, prices_said, event, Put, Puts, called, totalled, priced, silent, Said, opened, then}
 use Rattle.jobs.specs.Files.{written}
-use Rattle.jobs.specs.Lines.{answer_line_lem}
+use Rattle.jobs.specs.Lines.{answer_line}
 
 none_some : {A : Type 0} (x : A) → None ≡ Some x → ⊥
 none_some x e = let z : ◌≡◌ {A = ℕ} 0 1 = cc in omega arith
 
 module _ {N : Type 0} (net : Net (Pair Whole Whole)) (p q : Plan N) (offset : ℕ) where
-  pub call_puts : (e : Entry) (c : Call) (a : Answer) (work : ℕ) → call_of_lem e ≡ Some c → work ≡ net.places → CalledLawfully fits net p c work a q → Puts net p offset e (answer_line_lem offset a) q
+  pub call_puts : (e : Entry) (c : Call) (a : Answer) (work : ℕ) → asked_call e ≡ Some c → work ≡ net.places → CalledLawfully fits net p c work a q → Puts net p offset e (answer_line offset a) q
   call_puts e c a work is w step h runs =
       let s = subst (λ n. CalledLawfully fits net p c n a q) w step h runs in
       (_, called h (plan_state p) (plan_state q) offset e c a is s.kept, s.runs)
@@ -40,7 +40,7 @@ module _ {N : Type 0} (net : Net (Pair Whole Whole)) (p q : Plan N) (offset : �
   silent_puts e quiet same = subst (Puts net p offset e []) (sym same) (λ h runs. (h, silent h (plan_state p) offset e quiet, runs))
 
 -- a record that makes no call and is no question asks nothing
-pub quiet : (e : Entry) → None ≡ call_of_lem e → (e ≡ entry.Total → ⊥) → (e ≡ entry.Prices → ⊥) → Silent e
+pub quiet : (e : Entry) → None ≡ asked_call e → (e ≡ entry.Total → ⊥) → (e ≡ entry.Prices → ⊥) → Silent e
 quiet (entry.Head places ways) n t p = tt
 quiet (entry.Way tail head limit redraws misfit) n t p = tt
 quiet (entry.Book from to amount) n t p = none_some _ n
@@ -62,7 +62,7 @@ shut start = refl
 
 module _ {N : Type 0} (net : Net (Pair Whole Whole)) where
   -- the opening
-  pub opens : (p q : Plan N) (a : Answer) (work : ℕ) (text : List ℕ) → Runs fits net [] p → work ≡ net.places → CalledLawfully fits net p Open work a q → text ≡ answer_line_lem 0 a → CameSo net [] text q
+  pub opens : (p q : Plan N) (a : Answer) (work : ℕ) (text : List ℕ) → Runs fits net [] p → work ≡ net.places → CalledLawfully fits net p Open work a q → text ≡ answer_line 0 a → CameSo net [] text q
   opens p q a work text runs w step is =
       let s = subst (λ n. CalledLawfully fits net p Open n a q) w step [] runs in
       record {

@@ -4,12 +4,13 @@ use Rattle.std.proofs.ByRecursion.{All-push}
 use Rattle.std.proofs.lemmas.List.{drop-drop, drop_all, take_rest, take-append-drop, length-take-le}
 use Rattle.std.proofs.lemmas.Slice.{first_rest}
 use Rattle.jobs.specs.declared.entry.Entry.{Entry}
+use Rattle.jobs.specs.declared.fault.Fault.{Fault}
 use Rattle.jobs.specs.declared.form.Form.{Form}
 use Rattle.jobs.specs.declared.kind.Kind.{Kind}
 use Rattle.jobs.specs.declared.reader.Reader.{Reader}
 use Rattle.networks.specs.declared.refusal.Refusal.{Refusal}
 use Rattle.networks.specs.declared.refusal.Refusal.TheVariants.{CutShort, UnknownKind, OutOfPlace}
-use Rattle.jobs.specs.Kinds.{kind_byte, body_len_lem, section_of}
+use Rattle.jobs.specs.Kinds.{kind_byte, body_length, section_of}
 use Rattle.jobs.specs.Entries.{body_of, record_of, Spells}
 use Rattle.jobs.specs.Files.{written, longest, Holds, Begun, Wrong, unknown, misplaced, cut, missing, Faulty, after as fault-after}
 use Rattle.jobs.specs.Reading.{Due, due_section, complete, after, Read}
@@ -31,6 +32,10 @@ splits bs o l = sym (tail_is bs o) ∙ first_rest (tail_of bs o) 0 (simp (tail_i
 pub written_push : (es : List Entry) (e : Entry) → written (es ++ e ∷ []) ≡ written es ++ record_of e
 written_push [] e = append-nil (record_of e)
 written_push (x ∷ es) e = ap (λ ys. record_of x ++ ys) (written_push es e) ∙ sym (append_assoc (record_of x) (written es) (record_of e))
+
+-- a fault, by its parts
+pub fault_at : {f : Form} {bytes : List ℕ} {w : Refusal} {o : ℕ} (e : Fault) → e ≡ record { refusal = w; offset = o } → Faulty f bytes w o → Faulty f bytes e.refusal e.offset
+fault_at {f} {bytes} e is x = subst (λ d. Faulty f bytes d.refusal d.offset) (sym is) x
 
 module _ (f : Form) (es : List Entry) (r : Reader) (rd : Read f es r) (short : length r.bytes.now ≤ longest) where
   begun : (rest : List ℕ) → drop r.offset r.bytes.now ≡ rest → Begun f r.bytes.now es rest
@@ -66,14 +71,14 @@ module _ (f : Form) (es : List Entry) (r : Reader) (rd : Read f es r) (short : l
       pub misplaced_here : (section_of k ≡ due_section r.stage → ⊥) → Faulty f r.bytes.now OutOfPlace r.offset
       misplaced_here never = fault_here _ at_kind (misplaced k _ (λ p. never (only_due f r.stage es k rd.due p)))
 
-      pub cut_here : section_of k ≡ due_section r.stage → length (rest_of r.bytes.now r.offset) < body_len_lem k → Faulty f r.bytes.now CutShort r.offset
+      pub cut_here : section_of k ≡ due_section r.stage → length (rest_of r.bytes.now r.offset) < body_length k → Faulty f r.bytes.now CutShort r.offset
       cut_here i m = fault_here _ at_kind (cut k _ (may_come f r.stage es k rd.due i) m)
 
       -- the bytes from here on begin with the record
-      module _ (e : Entry) (n : ℕ) (long : n ≡ body_len_lem k) (m : n ≤ length (rest_of r.bytes.now r.offset))
-          (says : Spells k (take (n - 0) (rest_of r.bytes.now r.offset)) e) where
+      module _ (e : Entry) (n : ℕ) (long : n ≡ body_length k) (m : n ≤ length (rest_of r.bytes.now r.offset))
+          (says : Spells k (take n (rest_of r.bytes.now r.offset)) e) where
         body_here : body_of e ≡ take n (rest_of r.bytes.now r.offset)
-        body_here = says.numbers ∙ ap (λ i. take i (rest_of r.bytes.now r.offset)) (omega arith)
+        body_here = says.numbers
 
         from_here : drop r.offset r.bytes.now ≡ record_of e ++ drop n (rest_of r.bytes.now r.offset)
         from_here =

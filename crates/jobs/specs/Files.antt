@@ -11,7 +11,7 @@ use Rattle.networks.specs.declared.refusal.Refusal.{Refusal}
 use Rattle.networks.specs.declared.refusal.Refusal.TheVariants.{CutShort, UnknownKind, OutOfPlace, LongFile}
 use Rattle.jobs.specs.declared.section.Section.{Section}
 use Rattle.jobs.specs.declared.section.Section.TheVariants.{Listing, Calls, Sizes}
-use Rattle.jobs.specs.Kinds.{kind_byte, body_len_lem, section_of}
+use Rattle.jobs.specs.Kinds.{kind_byte, body_length, section_of}
 use Rattle.jobs.specs.Entries.{kind_of, record_of, Fits}
 
 -- the records one after the other
@@ -63,7 +63,7 @@ InPlace f es k = (e : Entry) × (more : List Entry) × (kind_of e ≡ k) × Lawf
 pub data Wrong (f : Form) (es : List Entry) : List ℕ → Refusal → Type 0 where
   unknown : (b : ℕ) (rest : List ℕ) → ((k : Kind) → kind_byte k ≢ b) → Wrong f es (b ∷ rest) UnknownKind
   misplaced : (k : Kind) (rest : List ℕ) → (InPlace f es k → ⊥) → Wrong f es (kind_byte k ∷ rest) OutOfPlace
-  cut : (k : Kind) (rest : List ℕ) → InPlace f es k → length rest < body_len_lem k → Wrong f es (kind_byte k ∷ rest) CutShort
+  cut : (k : Kind) (rest : List ℕ) → InPlace f es k → length rest < body_length k → Wrong f es (kind_byte k ∷ rest) CutShort
   missing : (Lawful f es → ⊥) → Wrong f es [] CutShort
 
 -- the first fault of a file and its offset: the kind byte's; the file's length if records are missing; 60,000 if the file is too long

@@ -5,6 +5,7 @@ pub mod Files
 pub mod Reading
 pub mod Writing
 pub mod Listing
+pub mod Stops
 pub mod Sections
 pub mod NetText
 pub mod Lines

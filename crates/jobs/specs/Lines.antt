@@ -2,11 +2,11 @@
 use Rattle.std.specs.Prelude.{◌≡◌, ℕ, List, [], ◌∷◌, ◌++◌, ℤ, Some, None, Ok, Err, codes, decimal, Option, Result}
 use Rattle.std.specs.Fmt.{signed_decimal}
 use Rattle.networks.specs.declared.refusal.Refusal.{Refusal}
-use Rattle.networks.specs.Refusals.{number_of, way_of}
+use Rattle.networks.specs.Refusals.{way_of}
+use Rattle.networks.specs.Refusals as refusal
 use Rattle.plan.specs.declared.calls.Answer.{Answer}
-use Rattle.plan.specs.declared.calls.Answer.TheVariants as answer
-use Rattle.plan.specs.declared.calls.Ending.{Ending}
-use Rattle.plan.specs.declared.calls.Ending.TheVariants as ending
+use Rattle.plan.specs.declared.calls.Answer.TheVariants.{Refused}
+use Rattle.plan.specs.Words as answer
 use Rattle.jobs.specs.declared.lines.Line.{Line}
 use Rattle.jobs.specs.declared.lines.Line.TheVariants as line
 use Rattle.jobs.specs.Listing.{fault_line}
@@ -17,26 +17,17 @@ abbrev pub way_words : Option ℕ → List ℕ
 way_words None = []
 way_words (Some k) = codes " way " ++ decimal k
 
+-- a refusal tells the offset of the record that it is about
 abbrev pub refusal_words : ℕ → Refusal → List ℕ
-refusal_words offset r = codes "refused " ++ decimal (number_of r) ++ codes " at " ++ decimal offset ++ way_words (way_of r)
+refusal_words offset r = refusal.refusal_words r ++ codes " at " ++ decimal offset ++ way_words (way_of r)
 
-abbrev pub ending_words : Ending → List ℕ
-ending_words ending.Settled = codes "settled"
-ending_words (ending.Blocked u) = codes "blocked " ++ decimal u
-ending_words ending.Unfinished = codes "unfinished"
-
--- what a plan answered, in words; a refusal tells the offset of the record
+-- what a plan answered to the record at the offset, in words
 abbrev pub answer_words : ℕ → Answer → List ℕ
-answer_words offset answer.Opened = codes "open"
-answer_words offset answer.Booked = codes "booked"
-answer_words offset answer.Settled = codes "settled"
-answer_words offset (answer.Blocked u) = codes "blocked " ++ decimal u
-answer_words offset (answer.Sent from to amount) = codes "sent " ++ decimal amount ++ codes " from " ++ decimal from ++ codes " to " ++ decimal to
-answer_words offset (answer.Ran routes e) = decimal routes ++ codes " " ++ ending_words e
-answer_words offset (answer.Refused r) = refusal_words offset r
+answer_words offset (Refused r) = refusal_words offset r
+answer_words offset a = answer.answer_words a
 
-abbrev pub answer_line_lem : ℕ → Answer → List ℕ
-answer_line_lem offset a = answer_words offset a ++ codes "\n"
+abbrev pub answer_line : ℕ → Answer → List ℕ
+answer_line offset a = answer_words offset a ++ codes "\n"
 
 -- each number after a space
 abbrev pub numbers : List ℤ → List ℕ
@@ -44,23 +35,23 @@ numbers [] = []
 numbers (x ∷ xs) = codes " " ++ signed_decimal x ++ numbers xs
 
 -- the numbers of a cost
-abbrev pub total_line_lem : List ℤ → List ℕ
-total_line_lem cost = codes "total" ++ numbers cost ++ codes "\n"
+abbrev pub total_line : List ℤ → List ℕ
+total_line cost = codes "total" ++ numbers cost ++ codes "\n"
 
 -- the price of each place
 abbrev pub price_words : List (ℤ × ℤ) → List ℕ
 price_words [] = []
 price_words (p ∷ ps) = numbers (p.0 ∷ p.1 ∷ []) ++ price_words ps
 
-abbrev pub prices_line_lem : List (ℤ × ℤ) → List ℕ
-prices_line_lem rows = codes "prices" ++ price_words rows ++ codes "\n"
+abbrev pub prices_line : List (ℤ × ℤ) → List ℕ
+prices_line rows = codes "prices" ++ price_words rows ++ codes "\n"
 
 -- the bytes of a line, its end included
 abbrev pub line_bytes : Line → List ℕ
-line_bytes (line.Answer offset a) = answer_line_lem offset a
-line_bytes (line.PairTotal redraws misfit) = total_line_lem (redraws ∷ misfit ∷ [])
-line_bytes (line.WholeTotal misfit) = total_line_lem (misfit ∷ [])
-line_bytes (line.Prices rows) = prices_line_lem rows.now
+line_bytes (line.Answer offset a) = answer_line offset a
+line_bytes (line.PairTotal redraws misfit) = total_line (redraws ∷ misfit ∷ [])
+line_bytes (line.WholeTotal misfit) = total_line (misfit ∷ [])
+line_bytes (line.Prices rows) = prices_line rows.now
 line_bytes (line.File e) = fault_line e
 
 -- the length of the line, and the table begins with it; or refused, exactly if it does not fit; or no memory for it. Either way of failing leaves the table as it was

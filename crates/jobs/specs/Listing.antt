@@ -9,14 +9,15 @@ use Rattle.jobs.specs.Entries.{record_of}
 use Rattle.jobs.specs.Files.{Holds, First}
 use Rattle.networks.specs.Refusals.{number_of}
 
-abbrev pub words_of_cost_lem : ℕ → ℤ → ℤ → List ℕ
-words_of_cost_lem limit redraws misfit = codes " limit " ++ decimal limit ++ codes " redraws " ++ signed_decimal redraws ++ codes " misfit " ++ signed_decimal misfit
+-- a way's limit and its cost, in words
+abbrev pub cost_words : ℕ → ℤ → ℤ → List ℕ
+cost_words limit redraws misfit = codes " limit " ++ decimal limit ++ codes " redraws " ++ signed_decimal redraws ++ codes " misfit " ++ signed_decimal misfit
 
 -- what a record says, in words; i is how many records stand before it, so that the ways of a job count from 0
 abbrev pub words : ℕ → Entry → List ℕ
 words i (Head places ways) = codes "head places " ++ decimal places ++ codes " ways " ++ decimal ways
 words i (Way tail head limit redraws misfit) =
-    codes "way " ++ decimal (i - 1) ++ codes " from " ++ decimal tail ++ codes " to " ++ decimal head ++ words_of_cost_lem limit redraws misfit
+    codes "way " ++ decimal (i - 1) ++ codes " from " ++ decimal tail ++ codes " to " ++ decimal head ++ cost_words limit redraws misfit
 words i (Book from to amount) = codes "book from " ++ decimal from ++ codes " to " ++ decimal to ++ codes " amount " ++ decimal amount
 words i Route = codes "route"
 words i (Settle budget) = codes "settle budget " ++ decimal budget
@@ -34,11 +35,17 @@ abbrev pub lines_of : ℕ → ℕ → List Entry → List ℕ
 lines_of i offset [] = []
 lines_of i offset (e ∷ es) = line_of i offset e ++ lines_of (i + 1) (offset + length (record_of e)) es
 
--- the line of a faulty file
+-- a faulty file in words, and its line
+abbrev pub fault_words : Fault → List ℕ
+fault_words e = codes "file " ++ decimal (number_of e.refusal) ++ codes " at " ++ decimal e.offset
+
 abbrev pub fault_line : Fault → List ℕ
-fault_line e = codes "file " ++ decimal (number_of e.refusal) ++ codes " at " ++ decimal e.offset ++ codes "\n"
+fault_line e = fault_words e ++ codes "\n"
+
+-- the text has the lines of the file's records
+abbrev pub Tells : Form → List ℕ → List ℕ → Type 0
+Tells f bytes text = (es : List Entry) × Holds f bytes es × (text ≡ lines_of 0 0 es)
 
 -- the text lists the file
 abbrev pub Lists : Form → List ℕ → List ℕ → Type 0
-Lists f bytes text =
-    ((es : List Entry) × Holds f bytes es × (text ≡ lines_of 0 0 es)) ⊎ ((e : Fault) × First f bytes e × (text ≡ fault_line e))
+Lists f bytes text = Tells f bytes text ⊎ ((e : Fault) × First f bytes e × (text ≡ fault_line e))

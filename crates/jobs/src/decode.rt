@@ -1,8 +1,8 @@
-ghost use Rattle.std.specs.Prelude.{◌≡◌, ◌^◌, ◌<◌, [], ◌∷◌, length};
+ghost use Rattle.std.specs.Prelude.{◌≡◌, ◌^◌, ◌<◌, [], ◌∷◌, ◌++◌, length};
 ghost use Rattle.std.specs.Int.Signed.{mag};
 ghost use Rattle.jobs.specs.Bytes.{two_bytes, four_bytes, unsigned};
 ghost use Rattle.jobs.specs.Entries.{Spells};
-ghost use Rattle.jobs.specs.Kinds.{body_len_lem};
+ghost use Rattle.jobs.specs.Kinds.{body_length};
 
 use super::entry::Entry;
 use super::kind::Kind;
@@ -26,97 +26,85 @@ fn signed(a: u8, b: u8, c: u8, d: u8) -> i32
     four(a, b, c, d).cast_signed()
 }
 
-fn head(body: &[u8]) -> Entry
-    requires { length body.now ≡ body_len_lem Kind.Head }
-    ensures { Spells Kind.Head body.now result }
+// The bytes as an array of so many.
+fn array<const N: usize>(bytes: &[u8]) -> [u8; N]
+    requires { length bytes.now ≡ N }
+    ensures { result ≡ bytes.now }
 {
-    let [a, b, c, d] = body else { unreachable() };
+    bytes.try_into().unwrap()
+}
+
+fn head(body: [u8; 4]) -> Entry
+    ensures { Spells Kind.Head body result }
+{
+    let [a, b, c, d] = body;
     Entry::Head {
-        places: two(*a, *b),
-        ways: two(*c, *d),
+        places: two(a, b),
+        ways: two(c, d),
     }
 }
 
-fn way(body: &[u8]) -> Entry
-    requires { length body.now ≡ body_len_lem Kind.Way }
-    ensures { Spells Kind.Way body.now result }
+fn way(body: [u8; 16]) -> Entry
+    ensures { Spells Kind.Way body result }
 {
-    let [a, b, c, d, e, f, g, h, i, j, k, l, m, n, o, p] = body else {
-        unreachable()
-    };
+    let [a, b, c, d, e, f, g, h, i, j, k, l, m, n, o, p] = body;
     Entry::Way {
-        tail: two(*a, *b),
-        head: two(*c, *d),
-        limit: four(*e, *f, *g, *h),
-        redraws: signed(*i, *j, *k, *l),
-        misfit: signed(*m, *n, *o, *p),
+        tail: two(a, b),
+        head: two(c, d),
+        limit: four(e, f, g, h),
+        redraws: signed(i, j, k, l),
+        misfit: signed(m, n, o, p),
     }
 }
 
-fn book(body: &[u8]) -> Entry
-    requires { length body.now ≡ body_len_lem Kind.Book }
-    ensures { Spells Kind.Book body.now result }
+fn book(body: [u8; 8]) -> Entry
+    ensures { Spells Kind.Book body result }
 {
-    let [a, b, c, d, e, f, g, h] = body else {
-        unreachable()
-    };
+    let [a, b, c, d, e, f, g, h] = body;
     Entry::Book {
-        from: two(*a, *b),
-        to: two(*c, *d),
-        amount: four(*e, *f, *g, *h),
+        from: two(a, b),
+        to: two(c, d),
+        amount: four(e, f, g, h),
     }
 }
 
-fn settle(body: &[u8]) -> Entry
-    requires { length body.now ≡ body_len_lem Kind.Settle }
-    ensures { Spells Kind.Settle body.now result }
+fn settle(body: [u8; 4]) -> Entry
+    ensures { Spells Kind.Settle body result }
 {
-    let [a, b, c, d] = body else { unreachable() };
+    let [a, b, c, d] = body;
     Entry::Settle {
-        budget: four(*a, *b, *c, *d),
+        budget: four(a, b, c, d),
     }
 }
 
-fn group(body: &[u8]) -> Entry
-    requires { length body.now ≡ body_len_lem Kind.Group }
-    ensures { Spells Kind.Group body.now result }
+// A length of foot, and how many have it.
+fn size(body: [u8; 6]) -> (u16, u32)
+    ensures numbers { two_bytes result.0 ++ four_bytes result.1 ≡ body }
 {
-    let [a, b, c, d, e, f] = body else {
-        unreachable()
-    };
-    Entry::Group {
-        length: two(*a, *b),
-        count: four(*c, *d, *e, *f),
-    }
-}
-
-fn last(body: &[u8]) -> Entry
-    requires { length body.now ≡ body_len_lem Kind.Last }
-    ensures { Spells Kind.Last body.now result }
-{
-    let [a, b, c, d, e, f] = body else {
-        unreachable()
-    };
-    Entry::Last {
-        length: two(*a, *b),
-        count: four(*c, *d, *e, *f),
-    }
+    let [a, b, c, d, e, f] = body;
+    (two(a, b), four(c, d, e, f))
 }
 
 // What a record of the kind with this body says.
 pub(crate) fn decode_body(kind: Kind, body: &[u8]) -> Entry
-    requires { length body.now ≡ body_len_lem kind }
+    requires { length body.now ≡ body_length kind }
     ensures { Spells kind body.now result }
 {
     match kind {
-        Kind::Head => head(body),
-        Kind::Way => way(body),
-        Kind::Book => book(body),
+        Kind::Head => head(array(body)),
+        Kind::Way => way(array(body)),
+        Kind::Book => book(array(body)),
         Kind::Route => Entry::Route,
-        Kind::Settle => settle(body),
+        Kind::Settle => settle(array(body)),
         Kind::Total => Entry::Total,
         Kind::Prices => Entry::Prices,
-        Kind::Group => group(body),
-        Kind::Last => last(body),
+        Kind::Group => {
+            let (length, count) = size(array(body));
+            Entry::Group { length, count }
+        }
+        Kind::Last => {
+            let (length, count) = size(array(body));
+            Entry::Last { length, count }
+        }
     }
 }

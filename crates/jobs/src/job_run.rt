@@ -1,13 +1,16 @@
-ghost use Rattle.std.specs.Prelude.{◌≡◌, length, IfOk, string_bytes};
-ghost use Rattle.jobs.specs.JobRuns.{call_of_lem, fits, total_said, prices_said, Puts, JobSays};
+ghost use Rattle.std.specs.Prelude.{◌≡◌, length, IfOk, MatchResult, string_bytes};
+ghost use Rattle.jobs.specs.declared.form.Form.TheVariants as form;
+ghost use Rattle.jobs.specs.JobRuns.{asked_call, fits, total_said, prices_said, Puts, Ran, JobSays};
+ghost use Rattle.jobs.specs.Lines.{line_bytes};
+ghost use Rattle.jobs.specs.Stops.{StoppedBy};
 ghost use Rattle.jobs.specs.Sections.{section_net};
 
 use super::entry::Entry;
 use super::file_section::FileSection;
 use super::form::Form;
-use super::lines::{answer_line, pair_total_line, prices_line};
-use super::listing::line_of_fault;
+use super::lines::Line;
 use super::reader::Reader;
+use super::stop::Stop;
 use costs::{Cost, Pair, Whole};
 use networks::{Network, Refusal};
 use plan::{Answer, Call, Plan};
@@ -15,7 +18,7 @@ use std::alloc::{AllocError, Global};
 
 // The call that a record makes of the plan.
 fn call_of(entry: Entry) -> Option<Call>
-    ensures { result ≡ call_of_lem entry }
+    ensures { result ≡ asked_call entry }
 {
     match entry {
         Entry::Book { from, to, amount } => Some(Call::Book {
@@ -29,33 +32,32 @@ fn call_of(entry: Entry) -> Option<Call>
     }
 }
 
-fn total_line(
-    heap: Global,
-    offset: usize,
-    r: Result<Pair<Whole, Whole>, Refusal>,
-) -> Result<String, AllocError>
-    ensures { IfOk result (λ x. string_bytes x ≡ total_said offset r) }
+// The line of a total.
+fn total_line<'a>(offset: usize, told: Result<Pair<Whole, Whole>, Refusal>) -> Line<'a>
+    ensures { line_bytes result ≡ total_said offset told }
 {
-    match r {
+    match told {
         Ok(cost) => {
             let (redraws, misfit) = cost.row();
-            pair_total_line(heap, redraws, misfit)
+            Line::PairTotal { redraws, misfit }
         }
-        Err(refusal) => answer_line(heap, offset, Answer::Refused(refusal)),
+        Err(refusal) => Line::Answer {
+            offset,
+            answer: Answer::Refused(refusal),
+        },
     }
 }
 
-fn prices_text(
-    heap: Global,
-    offset: usize,
-    r: Result<(), Refusal>,
-    rows: &[(i64, i64)],
-) -> Result<String, AllocError>
-    ensures { IfOk result (λ x. string_bytes x ≡ prices_said offset r rows.now) }
+// The line of the prices, which stand in the rows.
+fn prices_line<'a>(offset: usize, told: Result<(), Refusal>, rows: &'a [(i64, i64)]) -> Line<'a>
+    ensures { line_bytes result ≡ prices_said offset told rows.now }
 {
-    match r {
-        Ok(()) => prices_line(heap, rows),
-        Err(refusal) => answer_line(heap, offset, Answer::Refused(refusal)),
+    match told {
+        Ok(()) => Line::Prices { rows },
+        Err(refusal) => Line::Answer {
+            offset,
+            answer: Answer::Refused(refusal),
+        },
     }
 }
 
@@ -72,43 +74,47 @@ fn put_record<'a>(
         Puts (section_net plan.old.net) plan.old offset entry (string_bytes t) plan.new) }
 {
     if let Some(call) = call_of(entry) {
-        return answer_line(heap, offset, plan.perform(call, rows));
+        let answer = plan.perform(call, rows);
+        return Line::Answer { offset, answer }.text(heap);
     }
     match entry {
-        Entry::Total => total_line(heap, offset, plan.total()),
+        Entry::Total => total_line(offset, plan.total()).text(heap),
         Entry::Prices => {
             let told = plan.prices(rows);
-            prices_text(heap, offset, told, rows)
+            prices_line(offset, told, rows).text(heap)
         }
         _ => Ok(String::new(heap)),
     }
 }
 
-// Runs a job: a line for each call, the opening first, or the line of the file's first fault alone.
-pub fn run_job(heap: Global, bytes: &[u8]) -> Result<String, AllocError>
-    ensures { IfOk result (λ t. JobSays bytes.now (string_bytes t)) }
+fn run(heap: Global, bytes: &[u8]) -> Result<String, Stop>
+    ensures { MatchResult result (λ t. Ran bytes.now (string_bytes t)) (StoppedBy form.Job bytes.now) }
 {
     let section = FileSection::new(bytes);
     let mut rows = vec![in heap; (0, 0); section.places()]?;
     let mut plan = Plan::new(heap, section)?;
-    let opening = plan.perform(Call::Open, rows.as_mut_slice());
-    let mut text = answer_line(heap, 0, opening)?;
+    let answer = plan.perform(Call::Open, rows.as_mut_slice());
+    let mut text = Line::Answer { offset: 0, answer }.text(heap)?;
     let mut reader = Reader::new(Form::Job, bytes);
-    loop {
-        let found = match reader.next() {
-            Ok(found) => found,
-            Err(fault) => return line_of_fault(heap, fault),
-        };
-        let Some(record) = found else {
-            return Ok(text);
-        };
-        let next = put_record(
+    while let Some(record) = reader.next()? {
+        let line = put_record(
             heap,
             &mut plan,
             rows.as_mut_slice(),
             record.offset,
             record.entry,
         )?;
-        text.push_str(next.as_str())?;
+        text.push_str(line.as_str())?;
+    }
+    Ok(text)
+}
+
+// Runs a job: a line for each call, the opening first, or the line of the file's first fault alone.
+pub fn run_job(heap: Global, bytes: &[u8]) -> Result<String, AllocError>
+    ensures { IfOk result (λ t. JobSays bytes.now (string_bytes t)) }
+{
+    match run(heap, bytes) {
+        Ok(text) => Ok(text),
+        Err(stop) => stop.line(heap),
     }
 }

@@ -1,15 +1,15 @@
-ghost use Rattle.std.specs.Prelude.{◌≡◌, [], ◌∷◌, IfOk, string_bytes};
-ghost use Rattle.jobs.specs.Lines.{way_words, refusal_words, ending_words, answer_words, answer_line_lem, numbers, total_line_lem, prices_line_lem, line_bytes, Written};
+ghost use Rattle.std.specs.Prelude.{◌≡◌, IfOk, Some, string_bytes};
+ghost use Rattle.jobs.specs.Lines.{way_words, price_words, line_bytes, Written};
 
 use super::fault::Fault;
-use super::listing::line_of_fault;
 use super::write::put;
 use networks::Refusal;
-use plan::{Answer, Ending};
+use plan::Answer;
 use std::alloc::{AllocError, Global};
+use std::fmt;
 
 // A line that a job program prints.
-#[derive(Clone, Copy)]
+#[derive(Clone, Copy, PartialEq, Eq, Debug)]
 pub enum Line<'a> {
     Answer { offset: usize, answer: Answer },
     PairTotal { redraws: i64, misfit: i64 },
@@ -18,99 +18,60 @@ pub enum Line<'a> {
     File(Fault),
 }
 
-fn words_of_way(heap: Global, way: Option<usize>) -> Result<String, AllocError>
-    ensures { IfOk result (λ t. string_bytes t ≡ way_words way) }
-{
-    match way {
-        None => Ok(String::new(heap)),
-        Some(k) => format!(in heap; " way {k}"),
-    }
-}
+// The way that a refusal is about, if it is about one.
+#[derive(Clone, Copy)]
+struct About(Option<usize>);
 
-fn words_of_refusal(heap: Global, offset: usize, refusal: Refusal) -> Result<String, AllocError>
-    ensures { IfOk result (λ t. string_bytes t ≡ refusal_words offset refusal) }
-{
-    let number = refusal.number();
-    let way = words_of_way(heap, refusal.way())?;
-    format!(in heap; "refused {number} at {offset}{way}")
-}
+impl fmt::Display for About {
+    ghost output = { λ a. Some (way_words a.0) };
 
-fn words_of_ending(heap: Global, ending: Ending) -> Result<String, AllocError>
-    ensures { IfOk result (λ t. string_bytes t ≡ ending_words ending) }
-{
-    match ending {
-        Ending::Settled => format!(in heap; "settled"),
-        Ending::Blocked { at } => format!(in heap; "blocked {at}"),
-        Ending::Unfinished => format!(in heap; "unfinished"),
-    }
-}
-
-fn words_of_answer(heap: Global, offset: usize, answer: Answer) -> Result<String, AllocError>
-    ensures { IfOk result (λ t. string_bytes t ≡ answer_words offset answer) }
-{
-    match answer {
-        Answer::Opened => format!(in heap; "open"),
-        Answer::Booked => format!(in heap; "booked"),
-        Answer::Settled => format!(in heap; "settled"),
-        Answer::Blocked { at } => format!(in heap; "blocked {at}"),
-        Answer::Sent { from, to, amount } => format!(in heap; "sent {amount} from {from} to {to}"),
-        Answer::Ran { routes, ending } => {
-            let end = words_of_ending(heap, ending)?;
-            format!(in heap; "{routes} {end}")
+    fn fmt<W: fmt::Write>(&self, f: &mut fmt::Formatter<W>) -> fmt::Result {
+        match self.0 {
+            None => Ok(()),
+            Some(way) => write!(f, " way {way}"),
         }
-        Answer::Refused(refusal) => words_of_refusal(heap, offset, refusal),
     }
 }
 
-pub(crate) fn answer_line(heap: Global, offset: usize, answer: Answer) -> Result<String, AllocError>
-    ensures { IfOk result (λ t. string_bytes t ≡ answer_line_lem offset answer) }
-{
-    let words = words_of_answer(heap, offset, answer)?;
-    format!(in heap; "{words}\n")
-}
+// The prices of the places, one after the other.
+#[derive(Clone, Copy)]
+struct Prices<'a>(&'a [(i64, i64)]);
 
-pub(crate) fn pair_total_line(heap: Global, redraws: i64, misfit: i64) -> Result<String, AllocError>
-    ensures { IfOk result (λ t. string_bytes t ≡ total_line_lem (redraws ∷ misfit ∷ [])) }
-{
-    format!(in heap; "total {redraws} {misfit}\n")
-}
+impl fmt::Display for Prices<'_> {
+    ghost output = { λ p. Some (price_words p.0.now) };
 
-pub(crate) fn whole_total_line(heap: Global, misfit: i64) -> Result<String, AllocError>
-    ensures { IfOk result (λ t. string_bytes t ≡ total_line_lem (misfit ∷ [])) }
-{
-    format!(in heap; "total {misfit}\n")
-}
-
-fn words_of_price(heap: Global, redraws: i64, misfit: i64) -> Result<String, AllocError>
-    ensures { IfOk result (λ t. string_bytes t ≡ numbers (redraws ∷ misfit ∷ [])) }
-{
-    format!(in heap; " {redraws} {misfit}")
-}
-
-pub(crate) fn prices_line(heap: Global, rows: &[(i64, i64)]) -> Result<String, AllocError>
-    ensures { IfOk result (λ t. string_bytes t ≡ prices_line_lem rows.now) }
-{
-    let mut text = format!(in heap; "prices")?;
-    for i in 0..rows.len() {
-        let (redraws, misfit) = rows[i];
-        let price = words_of_price(heap, redraws, misfit)?;
-        text.push_str(price.as_str())?;
+    fn fmt<W: fmt::Write>(&self, f: &mut fmt::Formatter<W>) -> fmt::Result {
+        for (redraws, misfit) in self.0 {
+            write!(f, " {redraws} {misfit}")?;
+        }
+        Ok(())
     }
-    text.push_str("\n")?;
-    Ok(text)
+}
+
+// The line, its end included.
+impl fmt::Display for Line<'_> {
+    ghost output = { λ l. Some (line_bytes l) };
+
+    fn fmt<W: fmt::Write>(&self, f: &mut fmt::Formatter<W>) -> fmt::Result {
+        match self {
+            Line::Answer {
+                offset,
+                answer: Answer::Refused(refusal),
+            } => { writeln!(f, "{refusal} at {offset}{}", About(refusal.way())) }
+            Line::Answer { answer, .. } => writeln!(f, "{answer}"),
+            Line::PairTotal { redraws, misfit } => writeln!(f, "total {redraws} {misfit}"),
+            Line::WholeTotal { misfit } => writeln!(f, "total {misfit}"),
+            Line::Prices { rows } => writeln!(f, "prices{}", Prices(rows)),
+            Line::File(fault) => writeln!(f, "{fault}"),
+        }
+    }
 }
 
 impl<'a> Line<'a> {
     pub fn text(self, heap: Global) -> Result<String, AllocError>
         ensures { IfOk result (λ t. string_bytes t ≡ line_bytes self.entry) }
     {
-        match self {
-            Line::Answer { offset, answer } => answer_line(heap, offset, answer),
-            Line::PairTotal { redraws, misfit } => pair_total_line(heap, redraws, misfit),
-            Line::WholeTotal { misfit } => whole_total_line(heap, misfit),
-            Line::Prices { rows } => prices_line(heap, rows),
-            Line::File(fault) => line_of_fault(heap, fault),
-        }
+        self.to_string(heap)
     }
 
     // Puts the line at the beginning of the table, and answers its length.

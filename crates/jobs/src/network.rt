@@ -27,8 +27,8 @@ impl<'a> FileSection<'a> {
         };
         FileSection {
             bytes,
-            places: two(*a, *b) as usize,
-            ways: two(*c, *d) as usize,
+            places: usize::from(two(*a, *b)),
+            ways: usize::from(two(*c, *d)),
         }
     }
 }
@@ -69,8 +69,8 @@ impl<'a> Network for FileSection<'a> {
             unreachable()
         };
         Some(Ends {
-            tail: tail as usize,
-            head: head as usize,
+            tail: usize::from(tail),
+            head: usize::from(head),
             limit,
         })
     }

@@ -1,4 +1,6 @@
-ghost use Rattle.std.specs.Prelude.{◌≡◌, List, []};
+ghost use Rattle.std.specs.Prelude.{◌≡◌, ◌≢◌, List, [], MatchResult};
+ghost use Rattle.networks.specs.declared.refusal.Refusal.TheVariants.{UnknownKind};
+ghost use Rattle.jobs.specs.Kinds.{kind_byte};
 ghost use Rattle.jobs.specs.Reading.{due_section, complete, listing, after, Read, Next};
 
 use super::decode::decode_body;
@@ -6,7 +8,7 @@ use super::entry::Entry;
 use super::fault::Fault;
 use super::form::Form;
 use super::kind::Kind;
-use super::reader::{Reader, Stage};
+use super::reader::{LONGEST, Reader, Stage};
 use super::record::Record;
 use super::section::Section;
 use networks::Refusal;
@@ -55,6 +57,14 @@ impl Stage {
     }
 }
 
+// The kind that the byte at the offset tells.
+fn kind_at(byte: u8, offset: usize) -> Result<Kind, Fault>
+    ensures { MatchResult result (λ k. kind_byte k ≡ byte)
+        (λ e. (e ≡ record { refusal = UnknownKind; offset = offset }) × ((k : Kind) → kind_byte k ≢ byte)) }
+{
+    Kind::try_from(byte).map_err(move |refusal| Fault { refusal, offset })
+}
+
 impl<'a> Reader<'a> {
     // A reader at the start of a file.
     pub fn new(form: Form, bytes: &'a [u8]) -> Self
@@ -72,14 +82,24 @@ impl<'a> Reader<'a> {
         }
     }
 
+    // The refusal at the record that the reader stands at.
+    fn fault(&self, refusal: Refusal) -> Fault
+        ensures { result ≡ record { refusal = refusal; offset = self.now.offset } }
+    {
+        Fault {
+            refusal,
+            offset: self.offset,
+        }
+    }
+
     // The next record; none at the end of a good file; else the file's first fault, and the reader stays where it is.
     pub fn next(&mut self) -> Result<Option<Record<'a>>, Fault>
         ensures { (f : Form) (es : List Entry) → Read f es self.old → Next f es self.old result self.new }
     {
-        if self.bytes.len() > 60_000 {
+        if self.bytes.len() > LONGEST {
             return Err(Fault {
                 refusal: Refusal::LongFile,
-                offset: 60_000,
+                offset: LONGEST,
             });
         }
         let offset = self.offset;
@@ -87,32 +107,18 @@ impl<'a> Reader<'a> {
             return if self.stage.is_complete() {
                 Ok(None)
             } else {
-                Err(Fault {
-                    refusal: Refusal::CutShort,
-                    offset,
-                })
+                Err(self.fault(Refusal::CutShort))
             };
         };
-        let Some(kind) = Kind::told_by(*byte) else {
-            return Err(Fault {
-                refusal: Refusal::UnknownKind,
-                offset,
-            });
-        };
+        let kind = kind_at(*byte, offset)?;
         if kind.section() != self.stage.due() {
-            return Err(Fault {
-                refusal: Refusal::OutOfPlace,
-                offset,
-            });
+            return Err(self.fault(Refusal::OutOfPlace));
         }
         let len = kind.body_len();
         if rest.len() < len {
-            return Err(Fault {
-                refusal: Refusal::CutShort,
-                offset,
-            });
+            return Err(self.fault(Refusal::CutShort));
         }
-        let body = &rest[0..len];
+        let body = &rest[..len];
         let entry = decode_body(kind, body);
         self.stage = self.stage.next(entry);
         self.offset = offset + 1 + len;

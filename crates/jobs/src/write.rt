@@ -1,10 +1,16 @@
-ghost use Rattle.std.specs.Prelude.{◌∷◌, ◌++◌};
-ghost use Rattle.jobs.specs.Bytes.{two_bytes, four_bytes};
-ghost use Rattle.jobs.specs.Entries.{record_of};
+ghost use Rattle.std.specs.Prelude.{◌≡◌, ◌+◌, ◌≤◌, [], ◌∷◌, ◌++◌};
+ghost use Rattle.arrayvec.specs.ArrayVec.{array_vec_len};
+ghost use Rattle.jobs.specs.Bytes.{two_bytes, four_bytes, unsigned};
+ghost use Rattle.jobs.specs.Kinds.{kind_byte};
+ghost use Rattle.jobs.specs.Entries.{kind_of, body_of, record_of};
 ghost use Rattle.jobs.specs.Writing.{Writes};
 
 use super::entry::Entry;
+use arrayvec::ArrayVec;
 use networks::Refusal;
+
+// The longest record is a way: a kind byte and a body of 16.
+type Bytes = ArrayVec<u8, 17>;
 
 // Puts the bytes into the table at the offset, and answers the offset after them.
 pub(crate) fn put(table: &mut [u8], offset: usize, bytes: &[u8]) -> Result<usize, Refusal>
@@ -20,53 +26,49 @@ pub(crate) fn put(table: &mut [u8], offset: usize, bytes: &[u8]) -> Result<usize
     Ok(end)
 }
 
-fn put_way(
-    table: &mut [u8],
-    offset: usize,
-    tail: u16,
-    head: u16,
-    limit: u32,
-    redraws: u32,
-    misfit: u32,
-) -> Result<usize, Refusal>
-    ensures { Writes (2 ∷ (two_bytes tail ++ two_bytes head ++ four_bytes limit ++ four_bytes redraws ++ four_bytes misfit)) table.old offset result table.new }
+fn add<const N: usize>(bytes: &mut Bytes, number: [u8; N])
+    requires { array_vec_len bytes.old + N ≤ 17 }
+    ensures items { bytes.new.items ≡ bytes.old.items ++ number.entry }
+    ensures len { array_vec_len bytes.new ≡ array_vec_len bytes.old + N }
 {
-    let [a, b] = tail.to_be_bytes();
-    let [c, d] = head.to_be_bytes();
-    let [e, f, g, h] = limit.to_be_bytes();
-    let [i, j, k, l] = redraws.to_be_bytes();
-    let [m, n, o, p] = misfit.to_be_bytes();
-    put(
-        table,
-        offset,
-        &[2, a, b, c, d, e, f, g, h, i, j, k, l, m, n, o, p],
-    )
+    bytes.try_extend_from_slice(&number).unwrap();
 }
 
-fn put_size(
-    table: &mut [u8],
-    offset: usize,
-    kind: u8,
-    length: u16,
-    count: u32,
-) -> Result<usize, Refusal>
-    ensures { Writes (kind ∷ (two_bytes length ++ four_bytes count)) table.old offset result table.new }
+fn add_two(bytes: &mut Bytes, number: u16)
+    requires { array_vec_len bytes.old + 2 ≤ 17 }
+    ensures items { bytes.new.items ≡ bytes.old.items ++ two_bytes number }
+    ensures len { array_vec_len bytes.new ≡ array_vec_len bytes.old + 2 }
 {
-    let [a, b] = length.to_be_bytes();
-    let [c, d, e, f] = count.to_be_bytes();
-    put(table, offset, &[kind, a, b, c, d, e, f])
+    add(bytes, number.to_be_bytes());
+}
+
+fn add_four(bytes: &mut Bytes, number: u32)
+    requires { array_vec_len bytes.old + 4 ≤ 17 }
+    ensures items { bytes.new.items ≡ bytes.old.items ++ four_bytes number }
+    ensures len { array_vec_len bytes.new ≡ array_vec_len bytes.old + 4 }
+{
+    add(bytes, number.to_be_bytes());
+}
+
+// A number below zero stands as the sum of it and 2^32.
+fn add_signed(bytes: &mut Bytes, number: i32)
+    requires { array_vec_len bytes.old + 4 ≤ 17 }
+    ensures items { bytes.new.items ≡ bytes.old.items ++ four_bytes (unsigned number) }
+    ensures len { array_vec_len bytes.new ≡ array_vec_len bytes.old + 4 }
+{
+    add_four(bytes, number.cast_unsigned());
 }
 
 impl Entry {
-    // Puts the record into the table at the offset, and answers the offset after it.
-    pub fn write(self, table: &mut [u8], offset: usize) -> Result<usize, Refusal>
-        ensures { Writes (record_of self) table.old offset result table.new }
+    // Adds the numbers of the entry, the highest byte of each first.
+    fn add_body(self, bytes: &mut Bytes)
+        requires { array_vec_len bytes.old ≡ 1 }
+        ensures { bytes.new.items ≡ bytes.old.items ++ body_of self }
     {
         match self {
             Entry::Head { places, ways } => {
-                let [a, b] = places.to_be_bytes();
-                let [c, d] = ways.to_be_bytes();
-                put(table, offset, &[1, a, b, c, d])
+                add_two(bytes, places);
+                add_two(bytes, ways);
             }
             Entry::Way {
                 tail,
@@ -75,31 +77,39 @@ impl Entry {
                 redraws,
                 misfit,
             } => {
-                put_way(
-                    table,
-                    offset,
-                    tail,
-                    head,
-                    limit,
-                    redraws.cast_unsigned(),
-                    misfit.cast_unsigned(),
-                )
+                add_two(bytes, tail);
+                add_two(bytes, head);
+                add_four(bytes, limit);
+                add_signed(bytes, redraws);
+                add_signed(bytes, misfit);
             }
             Entry::Book { from, to, amount } => {
-                let [a, b] = from.to_be_bytes();
-                let [c, d] = to.to_be_bytes();
-                let [e, f, g, h] = amount.to_be_bytes();
-                put(table, offset, &[3, a, b, c, d, e, f, g, h])
+                add_two(bytes, from);
+                add_two(bytes, to);
+                add_four(bytes, amount);
             }
-            Entry::Route => put(table, offset, &[4]),
-            Entry::Settle { budget } => {
-                let [a, b, c, d] = budget.to_be_bytes();
-                put(table, offset, &[5, a, b, c, d])
+            Entry::Settle { budget } => add_four(bytes, budget),
+            Entry::Group { length, count } | Entry::Last { length, count } => {
+                add_two(bytes, length);
+                add_four(bytes, count);
             }
-            Entry::Total => put(table, offset, &[6]),
-            Entry::Prices => put(table, offset, &[7]),
-            Entry::Group { length, count } => put_size(table, offset, 8, length, count),
-            Entry::Last { length, count } => put_size(table, offset, 9, length, count),
+            Entry::Route | Entry::Total | Entry::Prices => {}
         }
+    }
+
+    fn bytes(self) -> Bytes
+        ensures { result.items ≡ record_of self }
+    {
+        let mut bytes = Bytes::new();
+        bytes.push(u8::from(self.kind()));
+        self.add_body(&mut bytes);
+        bytes
+    }
+
+    // Puts the record into the table at the offset, and answers the offset after it.
+    pub fn write(self, table: &mut [u8], offset: usize) -> Result<usize, Refusal>
+        ensures { Writes (record_of self) table.old offset result table.new }
+    {
+        put(table, offset, self.bytes().as_slice())
     }
 }

@@ -1,5 +1,5 @@
 -- The list of refusals, each with its number, and the way that four of them are about.
-use Rattle.std.specs.Prelude.{ℕ, Some, None, Option}
+use Rattle.std.specs.Prelude.{ℕ, List, ◌++◌, Some, None, Option, codes, decimal}
 use Rattle.networks.specs.declared.refusal.Refusal.{Refusal}
 use Rattle.networks.specs.declared.refusal.Refusal.TheVariants.{BadPlaces, ManyWays, NoEnd, SameEnds, LargeLimit, HeavyCost, LosingRing, NoPlace, SamePlace, BadAmount, BadBudget, ShortTable, NoWay, CutShort, UnknownKind, OutOfPlace, LongFile, NotOpen, AlreadyOpen, RestBound, FullList}
 
@@ -46,6 +46,10 @@ number_of AlreadyOpen = 31
 number_of RestBound = 32
 -- a layer's list is full and lacks the number
 number_of FullList = 33
+
+-- a refusal in words
+abbrev pub refusal_words : Refusal → List ℕ
+refusal_words r = codes "refused " ++ decimal (number_of r)
 
 abbrev pub way_of : Refusal → Option ℕ
 way_of BadPlaces = None

@@ -1,5 +1,8 @@
-ghost use Rattle.std.specs.Prelude.{◌≡◌};
-ghost use Rattle.networks.specs.Refusals.{number_of, way_of};
+ghost use Rattle.std.specs.Prelude.{◌≡◌, Some};
+ghost use Rattle.networks.specs.Refusals.{number_of, refusal_words, way_of};
+
+use std::error::Error;
+use std::fmt;
 
 // Why something is refused: the whole list.
 #[derive(Clone, Copy, PartialEq, Eq, Debug)]
@@ -69,3 +72,13 @@ impl Refusal {
         }
     }
 }
+
+impl fmt::Display for Refusal {
+    ghost output = { λ r. Some (refusal_words r) };
+
+    fn fmt<W: fmt::Write>(&self, f: &mut fmt::Formatter<W>) -> fmt::Result {
+        write!(f, "refused {}", self.number())
+    }
+}
+
+impl Error for Refusal {}

@@ -13,6 +13,7 @@ pub mod Sendings
 pub mod Picks
 pub mod Trails
 pub mod State
+pub mod Words
 pub mod Checks
 pub mod Routings
 pub mod Rules

@@ -1,9 +1,9 @@
-use Rattle.std.proofs.Common.{[], length, sym, refl, ap, ◌∙◌, arith, length-append}
+use Rattle.std.proofs.Common.{[], length, sym, refl, ap, ◌∙◌, subst, arith, length-append}
 use Rattle.jobs.specs.Entries.{record_of}
 use Rattle.jobs.specs.Files.{written}
-use Rattle.jobs.specs.Writing.{put_at}
+use Rattle.jobs.specs.Writing.{put_at, Writes}
 use Rattle.jobs.proofs.Progress.{came, nearer, one_more, came_to_end, came_to_fault, some_came, none_came}
-use Rattle.jobs.proofs.Puts.{put_on, put_none}
+use Rattle.jobs.proofs.Puts.{put_on, put_none, fitting}
 use Rattle.jobs.proofs.Turns.{written_push}
 use Rattle.jobs.proofs.copy.copy_file.Goals as goal
 
@@ -26,14 +26,14 @@ loop-record-preserved c =
     c.args.form c.new-reader.ensures.none _
     (λ g es d p.
     let e = c.in-Some.record.entry in
-    let w = c.in-Ok.ensures in
+    let w = subst (λ r. Writes (record_of e) c.loop-record.table c.loop-record.end r c.write.new.table) c.unwrap-end.ensures c.write.ensures in
     let n = ap length (written_push es e) ∙ length-append (written es) (record_of e) in
     let q = p.0 in
     let v = w.1 in
     (omega arith, w.2 ∙ put_on _ _ (written es) (record_of e) _ p.1 p.0 ∙ ap (put_at c.args.table.now 0) (sym (written_push es e))))
 
-pub returns-in-Err : goal.returns-in-Err
-returns-in-Err c =
+pub unwrap-end-requires : goal.unwrap-end-requires
+unwrap-end-requires c =
     let e = c.in-Some.record.entry in
     let r = c.loop-record.invariant.read c.args.form c.new-reader.ensures.none in
     let x = came _ _ _ _ _ c.loop-record.invariant c.in-Some.record (some_came c.in-Some.record c.in-Some.is c.in_ok-record.ensures) c.args.form c.new-reader.ensures.none in
@@ -43,8 +43,7 @@ returns-in-Err c =
     let same = ap length (x.same ∙ c.loop-record.invariant.same) in
     let end = r.2.0 in
     let long = c.loop-record.auto.table in
-    let w = c.in-Err.ensures.0 in
-    absurd (omega arith)
+    fitting (record_of e) c.loop-record.table c.write.new.table c.loop-record.end c.write.result c.write.ensures (omega arith)
 
 pub returns : goal.returns
 returns c =

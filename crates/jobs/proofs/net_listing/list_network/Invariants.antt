@@ -3,6 +3,6 @@ use Rattle.jobs.specs.Sections.{section_net}
 use Rattle.jobs.specs.NetText.{net_header, way_lines}
 use Rattle.jobs.proofs.net_listing.list_network.Given as goal
 
-abbrev pub invariant-loop-k : goal.invariant-loop-k
-invariant-loop-k l =
-    string_bytes l.text ≡ net_header (section_net l.net).places (length (section_net l.net).ways) ++ way_lines 0 (take l.k (section_net l.net).ways)
+abbrev pub invariant-loop-way : goal.invariant-loop-way
+invariant-loop-way l =
+    string_bytes l.text ≡ net_header (section_net l.net).places (length (section_net l.net).ways) ++ way_lines 0 (take l.way (section_net l.net).ways)
