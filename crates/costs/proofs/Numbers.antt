@@ -1,18 +1,11 @@
--- What the code of whole numbers computes: a comparison ranks costs, and an n-fold sum is a product that fits.
-use Rattle.std.proofs.Common.{◌≡◌, ℕ, zero, suc, ◌*◌, ◌≤◌, ℤ, pos, negsuc, ◌+ℤ◌, ◌*ℤ◌, nat_abs, ◌<ℤ◌, Ordering, Less, Equal, Greater, sym, refl, ap, ◌∙◌, subst, ap₂, mul-le-mul, arith, w64, SFits, to_z, of_z}
+-- What the code of whole numbers computes: an n-fold sum is a product that fits.
+use Rattle.std.proofs.Common.{◌≡◌, ℕ, zero, suc, ◌*◌, ◌≤◌, ℤ, pos, negsuc, ◌+ℤ◌, ◌*ℤ◌, nat_abs, sym, refl, ap, ◌∙◌, subst, ap₂, mul-le-mul, arith, w64, SFits, to_z, of_z}
 use lib.IntN.{zero-*ℤ, suc_ℤ-*ℤ}
-use Rattle.std.specs.Ordering.{MatchOrdering}
-use Rattle.std.proofs.lemmas.Int.{ints, to_z-of_z, to_z_pos}
+use Rattle.std.proofs.lemmas.Int.{to_z-of_z, to_z_pos}
 use Rattle.costs.specs.Group.{times}
-use Rattle.costs.specs.Kind.{heaviest, light, Compares}
-use Rattle.costs.specs.Whole.{whole_group, whole_kind}
-use Rattle.costs.specs.WholeLaws.{abs_opposite, same_whole}
-use Rattle.costs.specs.declared.whole.Whole.{Whole}
-
-pub ranks : (x y : Whole) (o : Ordering) → MatchOrdering o (x.amount <ℤ y.amount) (x.amount ≡ y.amount) (y.amount <ℤ x.amount) → Compares whole_kind x y o
-ranks x y Less h = (omega (arith, ints), λ e. omega (arith, ints))
-ranks x y Equal h = same_whole x y h
-ranks x y Greater h = (omega (arith, ints), λ e. omega (arith, ints))
+use Rattle.costs.specs.Kind.{heaviest, light}
+use Rattle.costs.specs.Whole.{whole_group}
+use Rattle.costs.specs.WholeLaws.{abs_opposite}
 
 times_is : (n : ℕ) (a : ℤ) → pos n *ℤ a ≡ times whole_group n a
 times_is zero a = zero-*ℤ a
