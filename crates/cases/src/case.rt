@@ -4,13 +4,14 @@ use anyhow::anyhow;
 use jobs::Form;
 
 // One case of the input: its form, its file and what stands behind it.
-#[derive(Clone, Copy)]
+#[derive(Clone, Copy, PartialEq, Eq, Debug)]
 pub struct Case<'a> {
     pub form: Form,
     pub file: &'a [u8],
     pub rest: &'a [u8],
 }
 
+// Both types are of other crates, so that this is no `TryFrom`.
 fn form_of(byte: u8) -> anyhow::Result<Form> {
     match byte {
         0 => Ok(Form::Job),

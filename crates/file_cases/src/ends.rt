@@ -1,5 +1,5 @@
 // What a check and two copies of a file say, in a line each.
-use jobs::{Form, check_file, copy_file};
+use jobs::{Fault, Form, check_file, copy_file};
 use std::alloc::{AllocError, Global};
 
 // What a table holds before anything is written.
@@ -8,29 +8,37 @@ const BLANK: u8 = 165;
 // How a check ends: with the number of records, or with the first fault.
 pub fn checked(heap: Global, form: Form, file: &[u8]) -> Result<String, AllocError> {
     match check_file(form, file) {
-        Ok(n) => format!(in heap; "records {n}\n"),
-        Err(fault) => {
-            let number = fault.refusal.number();
-            let offset = fault.offset;
-            format!(in heap; "fault {number} at {offset}\n")
+        Ok(records) => format!(in heap; "records {records}\n"),
+        Err(Fault { refusal, offset }) => {
+            format!(in heap; "fault {} at {offset}\n", refusal.number())
         }
     }
 }
 
+// How a copy into a table of so many bytes ends, and whether the table then holds what it should: the file, or what it held before.
+fn copy(
+    heap: Global,
+    form: Form,
+    file: &[u8],
+    len: usize,
+) -> Result<(Result<usize, Fault>, bool), AllocError> {
+    let mut table = vec![in heap; BLANK; len]?;
+    let end = copy_file(form, file, table.as_mut_slice());
+    let good = match end {
+        Ok(_) => table.as_slice() == file,
+        Err(_) => table.iter().all(|&byte| byte == BLANK),
+    };
+    Ok((end, good))
+}
+
 // How a copy into a table of the file's length ends: the same bytes, or refused with the table as it was.
 pub fn copied(heap: Global, form: Form, file: &[u8]) -> Result<String, AllocError> {
-    let mut table = vec![in heap; BLANK; file.len()]?;
-    match copy_file(form, file, table.as_mut_slice()) {
-        Ok(n) if table.as_slice() == file => format!(in heap; "copied {n}\n"),
-        Ok(n) => format!(in heap; "copied {n}, and not the same\n"),
-        Err(fault) => {
-            let number = fault.refusal.number();
-            let offset = fault.offset;
-            if table == vec![in heap; BLANK; file.len()]? {
-                format!(in heap; "refused {number} at {offset}\n")
-            } else {
-                format!(in heap; "refused {number} at {offset}, and written\n")
-            }
+    match copy(heap, form, file, file.len())? {
+        (Ok(n), true) => format!(in heap; "copied {n}\n"),
+        (Ok(n), false) => format!(in heap; "copied {n}, and not the same\n"),
+        (Err(Fault { refusal, offset }), true) => format!(in heap; "{refusal} at {offset}\n"),
+        (Err(Fault { refusal, offset }), false) => {
+            format!(in heap; "{refusal} at {offset}, and written\n")
         }
     }
 }
@@ -40,16 +48,9 @@ pub fn cut_off(heap: Global, form: Form, file: &[u8]) -> Result<String, AllocErr
     let Some(len) = file.len().checked_sub(1) else {
         return Ok(String::new(heap));
     };
-    let mut table = vec![in heap; BLANK; len]?;
-    match copy_file(form, file, table.as_mut_slice()) {
-        Ok(n) => format!(in heap; "short, and copied {n}\n"),
-        Err(fault) => {
-            let number = fault.refusal.number();
-            if table == vec![in heap; BLANK; len]? {
-                format!(in heap; "short {number}\n")
-            } else {
-                format!(in heap; "short {number}, and written\n")
-            }
-        }
+    match copy(heap, form, file, len)? {
+        (Ok(n), _) => format!(in heap; "short, and copied {n}\n"),
+        (Err(fault), true) => format!(in heap; "short {}\n", fault.refusal.number()),
+        (Err(fault), false) => format!(in heap; "short {}, and written\n", fault.refusal.number()),
     }
 }

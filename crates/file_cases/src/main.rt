@@ -5,7 +5,7 @@ mod ends;
 #[cfg(test)]
 mod tests;
 
-use cases::{Case, first_case};
+use cases::{Case, Cases};
 use ends::{checked, copied, cut_off};
 use jobs::list_file;
 use std::io::Read;
@@ -19,24 +19,11 @@ fn show(rt: &HostRuntime, number: usize, case: Case) -> anyhow::Result<()> {
     Ok(())
 }
 
-fn show_all(rt: &HostRuntime, cases: &[u8]) -> anyhow::Result<()> {
-    let mut left = cases;
-    let mut number = 0;
-    while !left.is_empty() {
-        let case = first_case(left)?;
-        show(rt, number, case)?;
-        left = case.rest;
-        number += 1;
+fn main(rt: HostRuntime) -> anyhow::Result<()> {
+    let mut input = Vec::new(rt.alloc());
+    rt.stdin().read_to_end(&mut input)?;
+    for (number, case) in Cases::new(input.as_slice()).enumerate() {
+        show(&rt, number, case?)?;
     }
     Ok(())
-}
-
-fn run(rt: &HostRuntime) -> anyhow::Result<()> {
-    let mut cases = Vec::new(rt.alloc());
-    rt.stdin().read_to_end(&mut cases)?;
-    show_all(rt, cases.as_slice())
-}
-
-fn main(rt: HostRuntime) -> anyhow::Result<()> {
-    run(&rt)
 }

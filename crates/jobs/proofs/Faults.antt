@@ -19,32 +19,32 @@ stuck f es _ zs _ e (cut k rest i l) q p =
     let t : rest ≡ body_of e ++ zs = cc in
     let m = length_body e ∙ ap body_length (sym h) in
     omega (arith, simp length-append at (ap length t))
-stuck f es _ zs _ e (missing never) q p = let z : ◌≡◌ {A = ℕ} 0 1 = cc in omega arith
+stuck f es _ zs _ e (missing never) q p = cc
 
 -- and one thing is wrong
 one_wrong : (f : Form) (es : List Entry) (xs ys : List ℕ) (r q : Refusal) → Wrong f es xs r → Wrong f es ys q → xs ≡ ys → r ≡ q
 one_wrong f es _ _ _ _ (unknown b rest never) (unknown b' rest' never') e = refl
 one_wrong f es _ _ _ _ (unknown b rest never) (misplaced k rest' never') e = absurd (never k (cc))
 one_wrong f es _ _ _ _ (unknown b rest never) (cut k rest' i l) e = absurd (never k (cc))
-one_wrong f es _ _ _ _ (unknown b rest never) (missing never') e = absurd (let z : ◌≡◌ {A = ℕ} 0 1 = cc in omega arith)
+one_wrong f es _ _ _ _ (unknown b rest never) (missing never') e = cc
 one_wrong f es _ _ _ _ (misplaced k rest never) (unknown b' rest' never') e = absurd (never' k (cc))
 one_wrong f es _ _ _ _ (misplaced k rest never) (misplaced k' rest' never') e = refl
 one_wrong f es _ _ _ _ (misplaced k rest never) (cut k' rest' i l) e = absurd (never (subst (InPlace f es) (one_kind k' k (cc)) i))
-one_wrong f es _ _ _ _ (misplaced k rest never) (missing never') e = absurd (let z : ◌≡◌ {A = ℕ} 0 1 = cc in omega arith)
+one_wrong f es _ _ _ _ (misplaced k rest never) (missing never') e = cc
 one_wrong f es _ _ _ _ (cut k rest i l) (unknown b' rest' never') e = absurd (never' k (cc))
 one_wrong f es _ _ _ _ (cut k rest i l) (misplaced k' rest' never') e = absurd (never' (subst (InPlace f es) (one_kind k k' (cc)) i))
 one_wrong f es _ _ _ _ (cut k rest i l) (cut k' rest' i' l') e = refl
 one_wrong f es _ _ _ _ (cut k rest i l) (missing never') e = refl
-one_wrong f es _ _ _ _ (missing never) (unknown b' rest' never') e = absurd (let z : ◌≡◌ {A = ℕ} 0 1 = cc in omega arith)
-one_wrong f es _ _ _ _ (missing never) (misplaced k rest' never') e = absurd (let z : ◌≡◌ {A = ℕ} 0 1 = cc in omega arith)
+one_wrong f es _ _ _ _ (missing never) (unknown b' rest' never') e = cc
+one_wrong f es _ _ _ _ (missing never) (misplaced k rest' never') e = cc
 one_wrong f es _ _ _ _ (missing never) (cut k rest' i l) e = refl
 one_wrong f es _ _ _ _ (missing never) (missing never') e = refl
 
 -- the end of the bytes is no fault of records that make a good file
 not_wrong_at_end : (f : Form) (es : List Entry) (xs : List ℕ) (r : Refusal) → Wrong f es xs r → xs ≡ [] → Lawful f es → ⊥
-not_wrong_at_end f es _ _ (unknown b rest never) e l = let z : ◌≡◌ {A = ℕ} 0 1 = cc in omega arith
-not_wrong_at_end f es _ _ (misplaced k rest never) e l = let z : ◌≡◌ {A = ℕ} 0 1 = cc in omega arith
-not_wrong_at_end f es _ _ (cut k rest i m) e l = let z : ◌≡◌ {A = ℕ} 0 1 = cc in omega arith
+not_wrong_at_end f es _ _ (unknown b rest never) e l = cc
+not_wrong_at_end f es _ _ (misplaced k rest never) e l = cc
+not_wrong_at_end f es _ _ (cut k rest i m) e l = cc
 not_wrong_at_end f es _ _ (missing never) e l = never l
 
 -- the records that follow others are in place there
@@ -62,7 +62,7 @@ no_fault f bytes _ _ (after ds rest r b w) (es, h) =
       | inl ([], a, p, q) ↦ not_wrong_at_end f ds rest r w q (subst (Lawful f) (p ∙ append-nil ds) h.lawful)
       | inl (e ∷ t, a, p, q) ↦ stuck f ds rest _ r e w (after_record e t rest [] q) (in_place f ds es t e p h.lawful)
       | inr ([], a, p, q) ↦ not_wrong_at_end f ds rest r w (sym q) (subst (Lawful f) (sym (append-nil es) ∙ sym p) h.lawful)
-      | inr (e ∷ t, a, p, q) ↦ let z : ◌≡◌ {A = ℕ} 0 1 = cc in omega arith
+      | inr (e ∷ t, a, p, q) ↦ cc
     ]
 
 -- two faults of one file are after the same records

@@ -1,5 +1,5 @@
 -- The lines of a network's ways, one more with each way that was asked for.
-use Rattle.std.proofs.Common.{◌≡◌, ℕ, zero, suc, ◌+◌, ◌<◌, List, [], ◌∷◌, ◌++◌, length, take, Some, None, Option, sym, ap, ◌∙◌, append_assoc, append-nil, add-zero, zero-add, add-one, arith}
+use Rattle.std.proofs.Common.{◌≡◌, ℕ, zero, suc, ◌+◌, List, [], ◌∷◌, ◌++◌, take, Some, None, Option, sym, ap, ◌∙◌, append_assoc, append-nil, add-zero, zero-add, add-one, arith}
 use Rattle.std.specs.List.{slice_get}
 use Rattle.costs.specs.declared.pair.Pair.{Pair}
 use Rattle.costs.specs.declared.whole.Whole.{Whole}
@@ -7,22 +7,16 @@ use Rattle.networks.specs.Net.{Way, ends_of, cost_of}
 use Rattle.networks.specs.declared.ends.Ends.{Ends}
 use Rattle.jobs.specs.NetText.{way_line, way_lines}
 
--- a way within the list is there
-pub there : {C : Type 0} (ws : List (Way C)) (k : ℕ) → k < length ws → None ≡ ends_of (slice_get ws k) → ⊥
-there [] k l e = omega arith
-there (w ∷ ws) zero l e = let z : ◌≡◌ {A = ℕ} 0 1 = cc in omega arith
-there (w ∷ ws) (suc k) l e = there ws k (omega arith) e
-
 -- a way by its two answers
 asked : {C : Type 0} (o : Option (Way C)) (e : Ends) (c : C) → Some e ≡ ends_of o → Some c ≡ cost_of o → o ≡ Some (record { tail = e.tail; head = e.head; limit = e.limit; cost = c })
-asked None e c p q = absurd (let z : ◌≡◌ {A = ℕ} 0 1 = cc in omega arith)
+asked None e c p q = cc
 asked (Some w) e c p q =
     let d : record { tail = w.tail; head = w.head; limit = w.limit } ≡ e = cc in
     let b : w.cost ≡ c = cc in
     ap (λ x. Some (record { tail = x.tail; head = x.head; limit = x.limit; cost = w.cost })) d ∙ ap (λ y. Some (record { tail = e.tail; head = e.head; limit = e.limit; cost = y })) b
 
 lines_more : (i k : ℕ) (ws : List (Way (Pair Whole Whole))) (w : Way (Pair Whole Whole)) → slice_get ws k ≡ Some w → way_lines i (take (suc k) ws) ≡ way_lines i (take k ws) ++ way_line (i + k) w
-lines_more i k [] w e = absurd (let z : ◌≡◌ {A = ℕ} 0 1 = cc in omega arith)
+lines_more i k [] w e = cc
 lines_more i zero (x ∷ ws) w e =
     let d : x ≡ w = cc in
     append-nil (way_line i x) ∙ ap (way_line i) d ∙ ap (λ j. way_line j w) (sym (add-zero i))

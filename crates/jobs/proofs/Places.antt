@@ -48,14 +48,14 @@ in_sample k s e = ap section_of (kind_of_sample k) ∙ e
 -- an entry of the heading is a head
 a_head : (e : Entry) → In section.Heading e → (places : ℕ) × (e ≡ entry.Head places (ways_told e))
 a_head (entry.Head places ways) i = (places, refl)
-a_head (entry.Way tail head limit redraws misfit) i = absurd (let z : ◌≡◌ {A = ℕ} 0 1 = cc in omega arith)
-a_head (entry.Book from to amount) i = absurd (let z : ◌≡◌ {A = ℕ} 0 1 = cc in omega arith)
-a_head entry.Route i = absurd (let z : ◌≡◌ {A = ℕ} 0 1 = cc in omega arith)
-a_head (entry.Settle budget) i = absurd (let z : ◌≡◌ {A = ℕ} 0 1 = cc in omega arith)
-a_head entry.Total i = absurd (let z : ◌≡◌ {A = ℕ} 0 1 = cc in omega arith)
-a_head entry.Prices i = absurd (let z : ◌≡◌ {A = ℕ} 0 1 = cc in omega arith)
-a_head (entry.Group length count) i = absurd (let z : ◌≡◌ {A = ℕ} 0 1 = cc in omega arith)
-a_head (entry.Last length count) i = absurd (let z : ◌≡◌ {A = ℕ} 0 1 = cc in omega arith)
+a_head (entry.Way tail head limit redraws misfit) i = cc
+a_head (entry.Book from to amount) i = cc
+a_head entry.Route i = cc
+a_head (entry.Settle budget) i = cc
+a_head entry.Total i = cc
+a_head entry.Prices i = cc
+a_head (entry.Group length count) i = cc
+a_head (entry.Last length count) i = cc
 
 -- the element between two parts lies in the first or in the second of another two, by its place
 pub in_first : {X : Type 0} (P : X → Type 0) (xs us : List X) (x : X) (ys vs : List X) → xs ++ x ∷ ys ≡ us ++ vs → length xs < length us → AllByRecursion P us → P x
@@ -65,10 +65,10 @@ in_first P (y ∷ xs) [] x ys vs e l a = absurd (omega arith)
 in_first P (y ∷ xs) (u ∷ us) x ys vs e l a = let h : xs ++ x ∷ ys ≡ us ++ vs = cc in in_first P xs us x ys vs h (omega arith) a.1
 
 in_second : {X : Type 0} (P : X → Type 0) (xs us : List X) (x : X) (ys vs : List X) → xs ++ x ∷ ys ≡ us ++ vs → length us ≤ length xs → AllByRecursion P vs → P x
-in_second P [] [] x ys [] e l a = absurd (let z : ◌≡◌ {A = ℕ} 0 1 = cc in omega arith)
+in_second P [] [] x ys [] e l a = cc
 in_second P [] [] x ys (v ∷ vs) e l a = let h : x ≡ v = cc in subst P (sym h) a.0
 in_second P [] (u ∷ us) x ys vs e l a = absurd (omega arith)
-in_second P (y ∷ xs) [] x ys [] e l a = absurd (let z : ◌≡◌ {A = ℕ} 0 1 = cc in omega arith)
+in_second P (y ∷ xs) [] x ys [] e l a = cc
 in_second P (y ∷ xs) [] x ys (v ∷ vs) e l a = let h : xs ++ x ∷ ys ≡ vs = cc in in_second P xs [] x ys vs h (omega arith) a.1
 in_second P (y ∷ xs) (u ∷ us) x ys vs e l a = let h : xs ++ x ∷ ys ≡ us ++ vs = cc in in_second P xs us x ys vs h (omega arith) a
 
@@ -165,8 +165,8 @@ only_due form.Grid Sizes es k d (e, more, q, a) =
 
 -- the file may end where nothing is missing
 pub may_end : (f : Form) (s : Stage) (es : List Entry) → Due f s es → complete s ≡ true → Lawful f es
-may_end form.Job Head es d c = absurd (let z : ◌≡◌ {A = ℕ} 0 1 = cc in omega arith)
-may_end form.Job (Ways left) es d c = absurd (let z : ◌≡◌ {A = ℕ} 0 1 = cc in omega arith)
+may_end form.Job Head es d c = cc
+may_end form.Job (Ways left) es d c = cc
 may_end form.Job Calls es d c = d
 may_end form.Job Sizes es d c = absurd d
 may_end form.Grid Head es d c = absurd d
@@ -176,18 +176,18 @@ may_end form.Grid Sizes es d c = d
 
 -- and only there
 pub not_yet : (f : Form) (s : Stage) (es : List Entry) → Due f s es → complete s ≡ false → Lawful f es → ⊥
-not_yet form.Job Head es d c j = let z : ◌≡◌ {A = ℕ} 0 1 = cc (d, j.whole) in omega arith
+not_yet form.Job Head es d c j = cc (d, j.whole)
 not_yet form.Job (Ways left) es d c j =
     let h : d.ways ≡ j.ways ++ j.after = cc (d.whole, j.whole) in
     let l : length d.ways + left ≡ length j.ways = cc (d.whole, j.whole) in
     let some = d.some in
     omega (arith, simp length-append at (ap length h))
-not_yet form.Job Calls es d c j = let z : ◌≡◌ {A = ℕ} 0 1 = cc in omega arith
+not_yet form.Job Calls es d c j = cc
 not_yet form.Job Sizes es d c j = d
 not_yet form.Grid Head es d c j = d
 not_yet form.Grid (Ways left) es d c j = d
 not_yet form.Grid Calls es d c j = d
-not_yet form.Grid Sizes es d c j = let z : ◌≡◌ {A = ℕ} 0 1 = cc in omega arith
+not_yet form.Grid Sizes es d c j = cc
 
 -- a kind that is due
 due_kind : Stage → Kind

@@ -1,5 +1,5 @@
 -- What putting a record to a plan says, by what the record asks.
-use Rattle.std.proofs.Common.{◌≡◌, ℕ, List, [], ◌∷◌, ◌++◌, length, ℤ, Some, None, Result, sym, refl, subst, arith}
+use Rattle.std.proofs.Common.{◌≡◌, ℕ, List, [], ◌∷◌, ◌++◌, length, ℤ, Some, None, Result, sym, refl, subst}
 use Rattle.costs.specs.declared.pair.Pair.{Pair}
 use Rattle.costs.specs.declared.whole.Whole.{Whole}
 use Rattle.networks.specs.Net.{Net}
@@ -20,7 +20,7 @@ use Rattle.jobs.specs.Files.{written}
 use Rattle.jobs.specs.Lines.{answer_line}
 
 none_some : {A : Type 0} (x : A) → None ≡ Some x → ⊥
-none_some x e = let z : ◌≡◌ {A = ℕ} 0 1 = cc in omega arith
+none_some x e = cc
 
 module _ {N : Type 0} (net : Net (Pair Whole Whole)) (p q : Plan N) (offset : ℕ) where
   pub call_puts : (e : Entry) (c : Call) (a : Answer) (work : ℕ) → asked_call e ≡ Some c → work ≡ net.places → CalledLawfully fits net p c work a q → Puts net p offset e (answer_line offset a) q

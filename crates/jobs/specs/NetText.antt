@@ -9,9 +9,12 @@ abbrev pub ends_words : ℕ → ℕ → ℕ → ℕ → List ℕ
 ends_words k tail head limit =
     codes "way " ++ decimal k ++ codes " from " ++ decimal tail ++ codes " to " ++ decimal head ++ codes " limit " ++ decimal limit
 
+abbrev pub cost_words : Pair Whole Whole → List ℕ
+cost_words c = codes " cost " ++ signed_decimal c.first.amount ++ codes " " ++ signed_decimal c.second.amount
+
 abbrev pub way_line : ℕ → Way (Pair Whole Whole) → List ℕ
 way_line k w =
-    ends_words k w.tail w.head w.limit ++ (codes " cost " ++ signed_decimal w.cost.first.amount ++ codes " " ++ signed_decimal w.cost.second.amount ++ codes "\n")
+    ends_words k w.tail w.head w.limit ++ (cost_words w.cost ++ codes "\n")
 
 abbrev pub way_lines : ℕ → List (Way (Pair Whole Whole)) → List ℕ
 way_lines k [] = []

@@ -33,7 +33,7 @@ fn call_of(entry: Entry) -> Option<Call>
 }
 
 // The line of a total.
-fn total_line<'a>(offset: usize, told: Result<Pair<Whole, Whole>, Refusal>) -> Line<'a>
+fn line_of_total<'a>(offset: usize, told: Result<Pair<Whole, Whole>, Refusal>) -> Line<'a>
     ensures { line_bytes result ≡ total_said offset told }
 {
     match told {
@@ -49,7 +49,7 @@ fn total_line<'a>(offset: usize, told: Result<Pair<Whole, Whole>, Refusal>) -> L
 }
 
 // The line of the prices, which stand in the rows.
-fn prices_line<'a>(offset: usize, told: Result<(), Refusal>, rows: &'a [(i64, i64)]) -> Line<'a>
+fn line_of_prices<'a>(offset: usize, told: Result<(), Refusal>, rows: &'a [(i64, i64)]) -> Line<'a>
     ensures { line_bytes result ≡ prices_said offset told rows.now }
 {
     match told {
@@ -78,10 +78,10 @@ fn put_record<'a>(
         return Line::Answer { offset, answer }.text(heap);
     }
     match entry {
-        Entry::Total => total_line(offset, plan.total()).text(heap),
+        Entry::Total => line_of_total(offset, plan.total()).text(heap),
         Entry::Prices => {
             let told = plan.prices(rows);
-            prices_line(offset, told, rows).text(heap)
+            line_of_prices(offset, told, rows).text(heap)
         }
         _ => Ok(String::new(heap)),
     }

@@ -1,12 +1,25 @@
 ghost use Rattle.std.specs.Prelude.{◌≡◌, IfOk, Some, string_bytes};
 ghost use Rattle.jobs.specs.Sections.{section_net};
-ghost use Rattle.jobs.specs.NetText.{way_line, net_text};
+ghost use Rattle.jobs.specs.NetText.{cost_words, way_line, net_text};
 
 use super::file_section::FileSection;
 use costs::{Cost, Pair, Whole};
 use networks::{Ends, Network};
 use std::alloc::{AllocError, Global};
 use std::fmt;
+
+// What each load on a way costs.
+#[derive(Clone, Copy)]
+struct PerLoad(Pair<Whole, Whole>);
+
+impl fmt::Display for PerLoad {
+    ghost output = { λ c. Some (cost_words c.0) };
+
+    fn fmt<W: fmt::Write>(&self, f: &mut fmt::Formatter<W>) -> fmt::Result {
+        let (redraws, misfit) = self.0.row();
+        write!(f, " cost {redraws} {misfit}")
+    }
+}
 
 // A way's line in the listing of its network.
 #[derive(Clone, Copy)]
@@ -21,9 +34,12 @@ impl fmt::Display for WayLine {
 
     fn fmt<W: fmt::Write>(&self, f: &mut fmt::Formatter<W>) -> fmt::Result {
         let Ends { tail, head, limit } = self.ends;
-        write!(f, "way {} from {tail} to {head} limit {limit}", self.way)?;
-        let (redraws, misfit) = self.cost.row();
-        writeln!(f, " cost {redraws} {misfit}")
+        writeln!(
+            f,
+            "way {} from {tail} to {head} limit {limit}{}",
+            self.way,
+            PerLoad(self.cost)
+        )
     }
 }
 

@@ -1,38 +1,25 @@
 // Runs many job files from standard input, one case after the other.
 #![tactic(auto)]
 
-use anyhow::anyhow;
-use cases::{Case, first_case};
+use anyhow::bail;
+use cases::{Case, Cases};
 use jobs::{Form, run_job};
 use std::io::Read;
 
 fn show(rt: &HostRuntime, number: usize, case: Case) -> anyhow::Result<()> {
-    let text = match case.form {
-        Form::Job => run_job(rt.alloc(), case.file)?,
-        Form::Grid => return Err(anyhow!("case {number} is a grid, and only jobs are run")),
+    let Form::Job = case.form else {
+        bail!("case {number} is a grid, and only jobs are run");
     };
+    let text = run_job(rt.alloc(), case.file)?;
     print!(rt; "case {number}\n{text}")?;
     Ok(())
 }
 
-fn show_all(rt: &HostRuntime, cases: &[u8]) -> anyhow::Result<()> {
-    let mut left = cases;
-    let mut number = 0;
-    while !left.is_empty() {
-        let case = first_case(left)?;
-        show(rt, number, case)?;
-        left = case.rest;
-        number += 1;
+fn main(rt: HostRuntime) -> anyhow::Result<()> {
+    let mut input = Vec::new(rt.alloc());
+    rt.stdin().read_to_end(&mut input)?;
+    for (number, case) in Cases::new(input.as_slice()).enumerate() {
+        show(&rt, number, case?)?;
     }
     Ok(())
-}
-
-fn run(rt: &HostRuntime) -> anyhow::Result<()> {
-    let mut cases = Vec::new(rt.alloc());
-    rt.stdin().read_to_end(&mut cases)?;
-    show_all(rt, cases.as_slice())
-}
-
-fn main(rt: HostRuntime) -> anyhow::Result<()> {
-    run(&rt)
 }

@@ -1,28 +1,31 @@
 // Lists a job file, a grid file or the network of a job file from standard input, in words.
 #![tactic(auto)]
 
-use anyhow::anyhow;
-use jobs::{FileSection, Form, list_file, list_network};
+use anyhow::{Context, anyhow};
+use jobs::{FileSection, Form, list_file, list_network, read_file};
 use std::alloc::{AllocError, Global};
 use std::env;
-use std::io::Read;
+use std::str::FromStr;
 
-// One byte more than a file may have is enough to know that it is too long.
-const ENOUGH: u64 = 60_001;
+const USAGE: &str = "say job, grid or network";
 
 // What to list.
-#[derive(Clone, Copy)]
+#[derive(Clone, Copy, PartialEq, Eq, Debug)]
 enum Listing {
     Records(Form),
     Network,
 }
 
-fn asked(word: &str) -> anyhow::Result<Listing> {
-    match word {
-        "job" => Ok(Listing::Records(Form::Job)),
-        "grid" => Ok(Listing::Records(Form::Grid)),
-        "network" => Ok(Listing::Network),
-        _ => Err(anyhow!("say job, grid or network")),
+impl FromStr for Listing {
+    type Err = anyhow::Error;
+
+    fn from_str(word: &str) -> anyhow::Result<Self> {
+        match word {
+            "job" => Ok(Listing::Records(Form::Job)),
+            "grid" => Ok(Listing::Records(Form::Grid)),
+            "network" => Ok(Listing::Network),
+            _ => Err(anyhow!(USAGE)),
+        }
     }
 }
 
@@ -33,17 +36,10 @@ fn text(heap: Global, listing: Listing, bytes: &[u8]) -> Result<String, AllocErr
     }
 }
 
-fn run(rt: &HostRuntime) -> anyhow::Result<()> {
-    let Some(word) = env::args(rt)?.nth(1) else {
-        return Err(anyhow!("say job, grid or network"));
-    };
-    let listing = asked(word.as_str())?;
-    let mut bytes = Vec::new(rt.alloc());
-    rt.stdin().take(ENOUGH).read_to_end(&mut bytes)?;
+fn main(rt: HostRuntime) -> anyhow::Result<()> {
+    let word = env::args(&rt)?.nth(1).context(USAGE)?;
+    let listing = word.parse::<Listing>()?;
+    let bytes = read_file(rt.alloc(), rt.stdin())?;
     rt.print(text(rt.alloc(), listing, bytes.as_slice())?)?;
     Ok(())
-}
-
-fn main(rt: HostRuntime) -> anyhow::Result<()> {
-    run(&rt)
 }

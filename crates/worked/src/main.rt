@@ -6,8 +6,8 @@ mod tests;
 
 use costs::{Cost, Pair, Whole};
 use networks::{Refusal, WayRecord, WayTable};
-use plan::{Ending, Outcome, Plan, Routed};
-use std::alloc::{AllocError, Global};
+use plan::Plan;
+use std::fmt;
 
 // Redraws, then misfit in tenths of a millimetre.
 type Fit = Pair<Whole, Whole>;
@@ -51,79 +51,51 @@ const WAYS: [WayRecord<Row>; 5] = [
     },
 ];
 
-fn refused(heap: Global, refusal: Refusal) -> Result<String, AllocError> {
-    let number = refusal.number();
-    format!(in heap; "refused {number}\n")
-}
+// A total as it is told.
+#[derive(Clone, Copy)]
+struct Total(Fit);
 
-fn booked(heap: Global, r: Result<(), Refusal>) -> Result<String, AllocError> {
-    match r {
-        Ok(()) => format!(in heap; "booked\n"),
-        Err(refusal) => refused(heap, refusal),
+impl fmt::Display for Total {
+    fn fmt<W: fmt::Write>(&self, f: &mut fmt::Formatter<W>) -> fmt::Result {
+        let (redraws, misfit) = self.0.row();
+        write!(f, "total {redraws} {misfit}")
     }
 }
 
-fn routed(heap: Global, r: Result<Routed, Refusal>) -> Result<String, AllocError> {
-    match r {
-        Ok(Routed::Settled) => format!(in heap; "settled\n"),
-        Ok(Routed::Blocked { at }) => format!(in heap; "blocked {at}\n"),
-        Ok(Routed::Sent { from, to, amount }) => format!(in heap;
-            "sent {amount} from {from} to {to}\n"
-        ),
-        Err(refusal) => refused(heap, refusal),
+// What was answered to a call, or why it was refused.
+fn tell<T: fmt::Display + Drop>(
+    rt: &HostRuntime,
+    answer: Result<T, Refusal>,
+) -> anyhow::Result<()> {
+    match answer {
+        Ok(said) => println!(rt; "{said}")?,
+        Err(refusal) => println!(rt; "{refusal}")?,
     }
-}
-
-fn settled(heap: Global, r: Result<Outcome, Refusal>) -> Result<String, AllocError> {
-    match r {
-        Ok(outcome) => {
-            let routes = outcome.routes;
-            match outcome.ending {
-                Ending::Settled => format!(in heap; "{routes} settled\n"),
-                Ending::Blocked { at } => format!(in heap; "{routes} blocked {at}\n"),
-                Ending::Unfinished => format!(in heap; "{routes} unfinished\n"),
-            }
-        }
-        Err(refusal) => refused(heap, refusal),
-    }
-}
-
-fn totalled(heap: Global, r: Result<Fit, Refusal>) -> Result<String, AllocError> {
-    match r {
-        Ok(cost) => {
-            let (redraws, misfit) = cost.row();
-            format!(in heap; "total {redraws} {misfit}\n")
-        }
-        Err(refusal) => refused(heap, refusal),
-    }
+    Ok(())
 }
 
 // The prices that stand in the rows.
 fn print_prices(rt: &HostRuntime, rows: &[Row]) -> anyhow::Result<()> {
-    rt.print("prices")?;
-    for &(redraws, misfit) in rows {
-        rt.print(format!(in rt.alloc(); " {redraws} {misfit}")?)?;
+    print!(rt; "prices")?;
+    for (redraws, misfit) in rows {
+        print!(rt; " {redraws} {misfit}")?;
     }
-    rt.print("\n")?;
+    println!(rt)?;
     Ok(())
 }
 
 // The load of each way, the rest of each place and the number of routes.
 fn print_state(rt: &HostRuntime, plan: &Study) -> anyhow::Result<()> {
-    rt.print("loads")?;
-    for way in 0..WAYS.len() {
-        if let Ok(load) = plan.load(way) {
-            rt.print(format!(in rt.alloc(); " {load}")?)?;
-        }
+    print!(rt; "loads")?;
+    for load in (0..WAYS.len()).filter_map(|way| plan.load(way).ok()) {
+        print!(rt; " {load}")?;
     }
-    rt.print("\nrests")?;
-    for place in 0..PLACES {
-        if let Ok(rest) = plan.rest(place) {
-            rt.print(format!(in rt.alloc(); " {rest}")?)?;
-        }
+    print!(rt; "\nrests")?;
+    for rest in (0..PLACES).filter_map(|place| plan.rest(place).ok()) {
+        print!(rt; " {rest}")?;
     }
     if let Ok(count) = plan.count() {
-        rt.print(format!(in rt.alloc(); "\nroutes {count}\n")?)?;
+        print!(rt; "\nroutes {count}\n")?;
     }
     Ok(())
 }
@@ -131,44 +103,38 @@ fn print_state(rt: &HostRuntime, plan: &Study) -> anyhow::Result<()> {
 fn print_reach(rt: &HostRuntime, plan: &Study, from: usize) -> anyhow::Result<()> {
     let mut marks = [0; PLACES];
     if let Err(refusal) = plan.reach(from, &mut marks) {
-        rt.print(refused(rt.alloc(), refusal)?)?;
+        println!(rt; "{refusal}")?;
         return Ok(());
     }
-    rt.print(format!(in rt.alloc(); "reach of {from}:")?)?;
-    for place in 0..PLACES {
-        if marks[place] == 1 {
-            rt.print(format!(in rt.alloc(); " {place}")?)?;
+    print!(rt; "reach of {from}:")?;
+    for (place, mark) in marks.iter().enumerate() {
+        if *mark == 1 {
+            print!(rt; " {place}")?;
         }
     }
-    rt.print("\n")?;
+    println!(rt)?;
     Ok(())
 }
 
 fn study(rt: &HostRuntime) -> anyhow::Result<()> {
-    let heap = rt.alloc();
+    let net = WayTable {
+        places: PLACES,
+        records: &WAYS,
+    };
+    let mut plan: Study = Plan::new(rt.alloc(), net)?;
     let mut rows = [(0, 0); PLACES];
-    let mut plan: Study = Plan::new(
-        heap,
-        WayTable {
-            places: PLACES,
-            records: &WAYS,
-        },
-    )?;
-    match plan.open(&mut rows) {
-        Ok(()) => rt.print("open\n")?,
-        Err(refusal) => rt.print(refused(heap, refusal)?)?,
-    }
-    rt.print(booked(heap, plan.book(0, 4, 2))?)?;
-    rt.print(booked(heap, plan.book(1, 4, 2))?)?;
-    rt.print(settled(heap, plan.settle(&mut rows, 10))?)?;
-    rt.print(totalled(heap, plan.total())?)?;
+    tell(rt, plan.open(&mut rows).map(|()| "open"))?;
+    tell(rt, plan.book(0, 4, 2).map(|()| "booked"))?;
+    tell(rt, plan.book(1, 4, 2).map(|()| "booked"))?;
+    tell(rt, plan.settle(&mut rows, 10))?;
+    tell(rt, plan.total().map(Total))?;
     if let Ok(()) = plan.prices(&mut rows) {
         print_prices(rt, &rows)?;
     }
-    rt.print(booked(heap, plan.book(1, 4, 2))?)?;
-    rt.print(routed(heap, plan.route(&mut rows))?)?;
-    rt.print(settled(heap, plan.settle(&mut rows, 10))?)?;
-    rt.print(totalled(heap, plan.total())?)?;
+    tell(rt, plan.book(1, 4, 2).map(|()| "booked"))?;
+    tell(rt, plan.route(&mut rows))?;
+    tell(rt, plan.settle(&mut rows, 10))?;
+    tell(rt, plan.total().map(Total))?;
     print_state(rt, &plan)?;
     print_reach(rt, &plan, 1)
 }

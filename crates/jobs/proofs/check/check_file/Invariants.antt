@@ -1,3 +1,4 @@
+-- The records so far are counted.
 use Rattle.std.proofs.Common.{◌≡◌, ◌-◌, length}
 use Rattle.jobs.proofs.Progress.{Come}
 use Rattle.jobs.proofs.check.check_file.Given as goal

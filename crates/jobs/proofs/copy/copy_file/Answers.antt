@@ -1,14 +1,12 @@
-use Rattle.std.proofs.Common.{[], length, sym, refl, ap, ◌∙◌, subst, arith, length-append}
+-- Each record that comes is put behind the others, and there is room for it.
+use Rattle.std.proofs.Common.{length, sym, ap, ◌∙◌, subst, arith, length-append}
 use Rattle.jobs.specs.Entries.{record_of}
 use Rattle.jobs.specs.Files.{written}
 use Rattle.jobs.specs.Writing.{put_at, Writes}
-use Rattle.jobs.proofs.Progress.{came, nearer, one_more, came_to_end, came_to_fault, some_came, none_came}
-use Rattle.jobs.proofs.Puts.{put_on, put_none, fitting}
+use Rattle.jobs.proofs.Progress.{came, nearer, one_more, came_to_fault, some_came}
+use Rattle.jobs.proofs.Puts.{put_on, fitting}
 use Rattle.jobs.proofs.Turns.{written_push}
 use Rattle.jobs.proofs.copy.copy_file.Goals as goal
-
-pub loop-record-init : goal.loop-record-init
-loop-record-init c = record { same = c.new-reader.ensures.same; read = λ f d. ([], d, (refl, put_none _)) }
 
 pub returns-in_err-record : goal.returns-in_err-record
 returns-in_err-record c =
@@ -44,9 +42,3 @@ unwrap-end-requires c =
     let end = r.2.0 in
     let long = c.loop-record.auto.table in
     fitting (record_of e) c.loop-record.table c.write.new.table c.loop-record.end c.write.result c.write.ensures (omega arith)
-
-pub returns : goal.returns
-returns c =
-    let e = came_to_end _ _ _ _ _ c.loop-record.invariant (none_came c.in_default.is c.in_ok-record.ensures) c.args.form c.new-reader.ensures.none in
-    let h = e.1.spelled in
-    ((e.0, e.1), c.if-table-bytes.false, e.2.0 ∙ ap length (sym h), e.2.1 ∙ ap (put_at c.args.table.now 0) (sym h))

@@ -1,3 +1,4 @@
+-- The table begins with the records so far.
 use Rattle.std.proofs.Common.{◌≡◌, ◌-◌, length}
 use Rattle.jobs.specs.Files.{written}
 use Rattle.jobs.specs.Writing.{put_at}

@@ -18,7 +18,7 @@ pub returns-in-Total-clause-put : goal.returns-in-Total-clause-put
 returns-in-Total-clause-put c =
     let net = section_net c.args.plan.now.net in
     IfOk-weaker c.text-in-Total.result _ _
-    (λ t b l. subst (λ x. Puts net c.args.plan.now c.args.offset c.args.entry x c.args.plan.now) (sym (b ∙ c.total_line.ensures))
+    (λ t b l. subst (λ x. Puts net c.args.plan.now c.args.offset c.args.entry x c.args.plan.now) (sym (b ∙ c.line_of_total.ensures))
     (subst (λ e. Puts net c.args.plan.now c.args.offset e (total_said c.args.offset c.total.result) c.args.plan.now) (sym c.in-Total.is) (total_puts net c.args.plan.now c.args.plan.now c.args.offset c.total.result c.total.ensures refl)))
     c.text-in-Total.ensures
 
@@ -26,7 +26,7 @@ pub returns-in-Prices-clause-put : goal.returns-in-Prices-clause-put
 returns-in-Prices-clause-put c =
     let net = section_net c.args.plan.now.net in
     IfOk-weaker c.text-in-Prices.result _ _
-    (λ t b l. subst (λ x. Puts net c.args.plan.now c.args.offset c.args.entry x c.prices-told.new.self) (sym (b ∙ c.prices_line.ensures))
+    (λ t b l. subst (λ x. Puts net c.args.plan.now c.args.offset c.args.entry x c.prices-told.new.self) (sym (b ∙ c.line_of_prices.ensures))
     (subst (λ e. Puts net c.args.plan.now c.args.offset e (prices_said c.args.offset c.prices-told.result c.prices-told.new.table) c.prices-told.new.self) (sym c.in-Prices.is)
     (prices_puts net c.args.plan.now c.prices-told.new.self c.args.offset c.prices-told.result c.args.rows.now c.prices-told.new.table l (c.prices-told.auto.table ∙ l)
     c.prices-told.ensures.prices c.prices-told.ensures.state c.prices-told.ensures.run)))

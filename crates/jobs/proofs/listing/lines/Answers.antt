@@ -1,12 +1,9 @@
 -- Each record that comes gives one line more, and the reader's fault is the file's first.
-use Rattle.std.proofs.Common.{◌+◌, ◌≤◌, [], refl, ◌∙◌, rules}
+use Rattle.std.proofs.Common.{◌+◌, ◌≤◌, refl, ◌∙◌, rules}
 use Rattle.std.proofs.lemmas.Result.{err_from_is_err_and}
 use Rattle.jobs.proofs.Lined.{one_line_more}
-use Rattle.jobs.proofs.Progress.{came, nearer, one_more, came_to_end, came_to_fault, counted, count_fits, some_came, none_came}
+use Rattle.jobs.proofs.Progress.{came, nearer, one_more, came_to_fault, counted, count_fits, some_came}
 use Rattle.jobs.proofs.listing.lines.Goals as goal
-
-pub loop-text-init : goal.loop-text-init
-loop-text-init c = record { same = c.new-reader.ensures.same; read = λ f d. ([], d, (refl, c.new-text.ensures.bytes)) }
 
 pub returns-in_err-record : goal.returns-in_err-record
 returns-in_err-record c =
@@ -34,8 +31,3 @@ loop-text-preserved c =
       counted es c.in-Some.record.entry _ p.0,
       c.in_ok-write.ensures.bytes ∙ one_line_more c.loop-text.index c.in-Some.record.offset es c.in-Some.record.entry _ _ p.0 (x.place ∙ d.place) p.1 refl,
     ))
-
-pub returns : goal.returns
-returns c =
-    let e = came_to_end _ _ _ _ _ c.loop-text.invariant (none_came c.in_default.is c.in_ok-record.ensures) c.args.form c.new-reader.ensures.none in
-    (e.0, e.1, e.2.1)

@@ -1,3 +1,4 @@
+-- The records so far are counted, and have their lines in the text.
 use Rattle.std.proofs.Common.{◌≡◌, ◌-◌, length, string_bytes}
 use Rattle.jobs.specs.Listing.{lines_of}
 use Rattle.jobs.proofs.Progress.{Come}

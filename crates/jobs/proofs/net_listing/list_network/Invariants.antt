@@ -1,3 +1,4 @@
+-- The ways so far have their lines in the text.
 use Rattle.std.proofs.Common.{◌≡◌, ◌++◌, length, take, string_bytes}
 use Rattle.jobs.specs.Sections.{section_net}
 use Rattle.jobs.specs.NetText.{net_header, way_lines}

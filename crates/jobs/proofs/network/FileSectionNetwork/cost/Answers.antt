@@ -1,3 +1,4 @@
+-- A way's cost is that which its record says.
 use Rattle.std.proofs.Common.{Some, sym, ap, ◌∙◌, w32, w64, SFits, arith, rules}
 use Rattle.std.proofs.lemmas.Int.{to_z-of_z}
 use Rattle.costs.specs.Whole.{whole_kind}

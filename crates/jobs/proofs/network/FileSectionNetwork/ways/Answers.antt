@@ -1,3 +1,4 @@
+-- A section has as many ways as its head tells.
 use Rattle.std.proofs.Common.{sym}
 use Rattle.std.proofs.lemmas.List.FromFn.{length-map-range_with_len}
 use Rattle.jobs.specs.Sections.{way_at}

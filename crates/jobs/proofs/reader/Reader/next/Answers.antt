@@ -4,15 +4,11 @@ use denote.Enum.Bare.{differs_true, differs_false}
 use Rattle.std.proofs.lemmas.Result.{err_from_is_err_and}
 use Rattle.jobs.specs.Files.{too_long}
 use Rattle.jobs.specs.contracts.section.Section.{the_type}
-use Rattle.jobs.proofs.Turns.{ended, ended_early, unknown_here, misplaced_here, cut_here, read_on, fault_at}
+use Rattle.jobs.proofs.Turns.{ended_early, unknown_here, misplaced_here, cut_here, read_on, fault_at}
 use Rattle.jobs.proofs.reader.Reader.next.Goals as goal
 
 pub returns-then-self-gt-LONGEST : goal.returns-then-self-gt-LONGEST
 returns-then-self-gt-LONGEST c f es rd = (refl, too_long c.if-self-gt-LONGEST.true)
-
-pub returns-then-is_complete : goal.returns-then-is_complete
-returns-then-is_complete c f es rd =
-    (refl, ended f es c.args.self.now rd c.if-self-gt-LONGEST.false (search rules) (sym c.if-is_complete.ensures))
 
 pub returns-else-is_complete : goal.returns-else-is_complete
 returns-else-is_complete c f es rd =
