@@ -18,7 +18,7 @@ use Rattle.plan.specs.Sweeps.{way_of}
 
 way_known : {C : Type 0} (o : Option (Way C)) (e : Ends) (x : C) → Some e ≡ ends_of o → Some x ≡ cost_of o →
     o ≡ Some (record { tail = e.tail; head = e.head; limit = e.limit; cost = x })
-way_known None e x p q = let z : ◌≡◌ {A = ℕ} 0 1 = cc in absurd (omega arith)
+way_known None e x p q = cc
 way_known (Some w) e x p q =
     let a : record { tail = w.tail; head = w.head; limit = w.limit } ≡ e = cc in
     let b : w.cost ≡ x = cc in
@@ -26,12 +26,12 @@ way_known (Some w) e x p q =
     ∙ ap (λ (y : Ends). Some (record { tail = y.tail; head = y.head; limit = y.limit; cost = x })) a
 
 no_ends : {C : Type 0} (o : Option (Way C)) (w : Way C) → None ≡ ends_of o → o ≡ Some w → ⊥
-no_ends None w p q = let z : ◌≡◌ {A = ℕ} 0 1 = cc in omega arith
-no_ends (Some x) w p q = let z : ◌≡◌ {A = ℕ} 0 1 = cc in omega arith
+no_ends None w p q = cc
+no_ends (Some x) w p q = cc
 
 no_cost : {C : Type 0} (o : Option (Way C)) (w : Way C) → None ≡ cost_of o → o ≡ Some w → ⊥
-no_cost None w p q = let z : ◌≡◌ {A = ℕ} 0 1 = cc in omega arith
-no_cost (Some x) w p q = let z : ◌≡◌ {A = ℕ} 0 1 = cc in omega arith
+no_cost None w p q = cc
+no_cost (Some x) w p q = cc
 
 module _ {C R : Type 0} (K : Kind C R) (net : Net C) (loads : List ℕ) where
   -- a step that leads somewhere goes along a way
@@ -61,10 +61,10 @@ module _ {C R : Type 0} (K : Kind C R) (net : Net C) (loads : List ℕ) where
         let there : slice_get net.ways k ≡ Some w' = subst (λ i. slice_get net.ways i ≡ Some w') q known' in
         let same : w' ≡ w = cc in
         subst (λ i. get_or loads i 0 < w.limit) q (subst (λ x. get_or loads j 0 < x.limit) same space)
-    ahead_space (behind j w' known' loaded) e = let z : ◌≡◌ {A = ℕ} 0 1 = cc in absurd (omega arith)
+    ahead_space (behind j w' known' loaded) e = cc
 
     back_loaded : {s : Step} {u v : ℕ} {c : K.group.Carrier} {r : ℕ} → Gives K net loads s u v c r → s ≡ Back k → 0 < get_or loads k 0
-    back_loaded (forth j w' known' space) e = let z : ◌≡◌ {A = ℕ} 0 1 = cc in absurd (omega arith)
+    back_loaded (forth j w' known' space) e = cc
     back_loaded (behind j w' known' loaded) e = let q : j ≡ k = cc in subst (λ i. 0 < get_or loads i 0) q loaded
 
     leg_ahead : (room : ℕ) → room ≡ w.limit - get_or loads k 0 → LegIf (Ahead k) (record { from = w.tail; to = w.head; cost = w.cost; room = room })

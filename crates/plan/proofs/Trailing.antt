@@ -106,17 +106,17 @@ module _ {C R : Type 0} (K : Kind C R) (net : Net C) (loads : List ℕ) where
       far_noted none = ⊎_elim (λ s. let q = s.2 in unlike q none) (λ k. let q = k.note in unlike q none) noted
         where
           unlike : {n : Note} → slice_get notes at ≡ Some n → slice_get notes at ≡ None → ⊥
-          unlike p q = let z : ◌≡◌ {A = ℕ} 0 1 = cc in omega arith
+          unlike p q = cc
 
       pub far_seen : slice_get notes at ≡ Some Unseen → ⊥
-      far_seen unseen = ⊎_elim (λ s. let q = s.2 in let z : ◌≡◌ {A = ℕ} 0 1 = cc in omega arith) (λ k. let q = k.note in let z : ◌≡◌ {A = ℕ} 0 1 = cc in omega arith) noted
+      far_seen unseen = ⊎_elim (λ s. let q = s.2 in cc) (λ k. let q = k.note in cc) noted
 
       pub far_begins : slice_get notes at ≡ Some Start → (at ≡ from) × (far.value ≡ K.group.zero)
-      far_begins start = ⊎_elim (λ s. (s.0, s.1)) (λ k. let q = k.note in let z : ◌≡◌ {A = ℕ} 0 1 = cc in absurd (omega arith)) noted
+      far_begins start = ⊎_elim (λ s. (s.0, s.1)) (λ k. let q = k.note in cc) noted
 
       module _ (s : Step) (note : slice_get notes at ≡ Some (Via s)) where
         came : Came K net loads t rank at far.value
-        came = ⊎_elim (λ p. let q = p.2 in let z : ◌≡◌ {A = ℕ} 0 1 = cc in absurd (omega arith)) (λ k. k) noted
+        came = ⊎_elim (λ p. let q = p.2 in cc) (λ k. k) noted
 
         came_step : came.step ≡ s
         came_step = let n = came.note in cc
