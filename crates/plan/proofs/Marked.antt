@@ -9,7 +9,6 @@ use Rattle.costs.specs.Kind.{Kind}
 use Rattle.networks.specs.Net.{Net}
 use Rattle.plan.specs.declared.step.Step.{Step}
 use Rattle.plan.specs.declared.step.Step.TheVariants.{Ahead, Back}
-use Rattle.plan.specs.Legs.{IsShut}
 use Rattle.plan.specs.Marks.{On, Extended, Led, Grown, Spread, Spreads, Tells}
 use Rattle.plan.specs.Questions.{Marked}
 use Rattle.plan.specs.Standing.{Inside}
@@ -97,12 +96,6 @@ module _ {C R : Type 0} (K : Kind C R) (net : Net C) (loads : List ℕ) where
         (q.each v);
   }
 
-  grown_none : (m : List ℕ) → Grown K net loads m m
-  grown_none m = record { each = λ v. inl refl }
-
-  pub spread_none : {done : Step → Type 0} (m : List ℕ) → ((s : Step) (u v : ℕ) (c : K.group.Carrier) (r : ℕ) → Gives K net loads s u v c r → done s → ⊥) → Spread K net loads done m m false
-  spread_none m never = record { grown = grown_none m; met = λ s u v c r g d on. absurd (never s u v c r g d); same = λ _. refl }
-
   spread_as : {A B : Step → Type 0} {m m' : List ℕ} {told : Bool} → ((s : Step) (u v : ℕ) (c : K.group.Carrier) (r : ℕ) → Gives K net loads s u v c r → B s → A s) →
       Spread K net loads A m m' told → Spread K net loads B m m' told
   spread_as sub p = record { grown = p.grown; met = λ s u v c r g b on. p.met s u v c r g (sub s u v c r g b) on; same = p.same }
@@ -114,10 +107,6 @@ module _ {C R : Type 0} (K : Kind C R) (net : Net C) (loads : List ℕ) where
         ⊎_elim (λ x. keeps q.grown v (p.met s u v c r g x on)) (λ x. q.met s u v c r g x (keeps p.grown u on)) d;
     same = λ e. let o = or_parts a b e in q.same o.1 ∙ p.same o.0;
   }
-
-  -- along a step that leads nowhere
-  pub by_none : {s : Step} (m : List ℕ) → IsShut K net loads s → Spread K net loads (λ s'. s' ≡ s) m m false
-  by_none m shut = spread_none m (λ s' u v c r g e. shut u v c r (subst (λ z. Gives K net loads z u v c r) e g))
 
   -- along one step
   pub by_step : {s : Step} {u v r : ℕ} {c : K.group.Carrier} {m m' : List ℕ} {told : Bool} → Gives K net loads s u v c r → Extended u v m m' told → Spread K net loads (λ s'. s' ≡ s) m m' told
@@ -158,13 +147,6 @@ module _ {C R : Type 0} (K : Kind C R) (net : Net C) (loads : List ℕ) where
   -- at the end every way was swept
   pub sweep_all : (n : ℕ) → length net.ways ≤ n → {m m' : List ℕ} {told : Bool} → Spread K net loads (λ s. way_of s < n) m m' told → Spread K net loads (λ s. Unit {0}) m m' told
   sweep_all n l p = spread_as (λ s u v c r g _. omega (arith, gives_way K net loads g)) p
-
-  pub spreads_none : (m : List ℕ) → Spreads K net loads 0 m m
-  spreads_none m = record { grown = grown_none m; short = λ u ss vs v c p l on. stays p l on }
-    where
-      stays : {u v : ℕ} {ss : List Step} {vs : List ℕ} {c : K.group.Carrier} → Leads K net loads 1 u ss vs v c → length ss ≤ 0 → On m u → On m v
-      stays (there u) l on = on
-      stays (then u a v s ss vs c d r g room p) l on = absurd (omega arith)
 
   -- one sweep more
   pub spreads_more : (n : ℕ) (m m' m'' : List ℕ) (told : Bool) → Spreads K net loads n m m' → Spread K net loads (λ s. Unit {0}) m' m'' told → Spreads K net loads (n + 1) m m''
