@@ -1,9 +1,8 @@
 -- The leg of a step, from what the network answers of its way and the load on that.
-use Rattle.std.proofs.Common.{◌≡◌, ℕ, ◌-◌, ◌<◌, ◌≤◌, Bool, true, false, ltb, List, length, get_or, Some, None, Option, refl, ap, ◌∙◌, sym, subst, arith}
+use Rattle.std.proofs.Common.{◌≡◌, ℕ, ◌-◌, ◌<◌, ◌≤◌, Bool, true, false, ltb, List, get_or, Some, None, Option, refl, ap, ◌∙◌, sym, subst, arith}
 use Rattle.std.specs.List.{slice_get}
 use Rattle.std.specs.Bool.{then_some}
 use Rattle.std.proofs.lemmas.Bool.{ltb-true, ltb-false}
-use Rattle.std.proofs.lemmas.Option.{slice_get_within}
 use Rattle.costs.specs.Kind.{Kind}
 use Rattle.networks.specs.declared.ends.Ends.{Ends}
 use Rattle.networks.specs.Net.{Net, Way, ends_of, cost_of}
@@ -18,36 +17,18 @@ use Rattle.plan.specs.Sweeps.{way_of}
 
 way_known : {C : Type 0} (o : Option (Way C)) (e : Ends) (x : C) → Some e ≡ ends_of o → Some x ≡ cost_of o →
     o ≡ Some (record { tail = e.tail; head = e.head; limit = e.limit; cost = x })
-way_known None e x p q = let z : ◌≡◌ {A = ℕ} 0 1 = cc in absurd (omega arith)
+way_known None e x p q = cc
 way_known (Some w) e x p q =
     let a : record { tail = w.tail; head = w.head; limit = w.limit } ≡ e = cc in
     let b : w.cost ≡ x = cc in
     ap (λ y. Some (record { tail = w.tail; head = w.head; limit = w.limit; cost = y })) b
     ∙ ap (λ (y : Ends). Some (record { tail = y.tail; head = y.head; limit = y.limit; cost = x })) a
 
-no_ends : {C : Type 0} (o : Option (Way C)) (w : Way C) → None ≡ ends_of o → o ≡ Some w → ⊥
-no_ends None w p q = let z : ◌≡◌ {A = ℕ} 0 1 = cc in omega arith
-no_ends (Some x) w p q = let z : ◌≡◌ {A = ℕ} 0 1 = cc in omega arith
-
-no_cost : {C : Type 0} (o : Option (Way C)) (w : Way C) → None ≡ cost_of o → o ≡ Some w → ⊥
-no_cost None w p q = let z : ◌≡◌ {A = ℕ} 0 1 = cc in omega arith
-no_cost (Some x) w p q = let z : ◌≡◌ {A = ℕ} 0 1 = cc in omega arith
-
 module _ {C R : Type 0} (K : Kind C R) (net : Net C) (loads : List ℕ) where
   -- a step that leads somewhere goes along a way
   pub gives_known : {s : Step} {u v : ℕ} {c : K.group.Carrier} {r : ℕ} → Gives K net loads s u v c r → (w : Way C) × (slice_get net.ways (way_of s) ≡ Some w)
   gives_known (forth k w known space) = (w, known)
   gives_known (behind k w known loaded) = (w, known)
-
-  module _ (k : ℕ) (s : Step) (along : k ≡ way_of s) where
-    same_way : {u v : ℕ} {c : K.group.Carrier} {r : ℕ} → Gives K net loads s u v c r → (w : Way C) × (slice_get net.ways k ≡ Some w)
-    same_way g = let w = gives_known g in (w.0, ap (slice_get net.ways) along ∙ w.1)
-
-    pub shut_unended : None ≡ ends_of (slice_get net.ways k) → IsShut K net loads s
-    shut_unended none u v c r g = let w = same_way g in no_ends _ w.0 none w.1
-
-    pub shut_uncosted : None ≡ cost_of (slice_get net.ways k) → IsShut K net loads s
-    shut_uncosted none u v c r g = let w = same_way g in no_cost _ w.0 none w.1
 
   -- the leg is that of the step, if it has room; and if it has none, the step is shut
   pub record LegIf (s : Step) (leg : Leg C) : Type 0 where
@@ -61,10 +42,10 @@ module _ {C R : Type 0} (K : Kind C R) (net : Net C) (loads : List ℕ) where
         let there : slice_get net.ways k ≡ Some w' = subst (λ i. slice_get net.ways i ≡ Some w') q known' in
         let same : w' ≡ w = cc in
         subst (λ i. get_or loads i 0 < w.limit) q (subst (λ x. get_or loads j 0 < x.limit) same space)
-    ahead_space (behind j w' known' loaded) e = let z : ◌≡◌ {A = ℕ} 0 1 = cc in absurd (omega arith)
+    ahead_space (behind j w' known' loaded) e = cc
 
     back_loaded : {s : Step} {u v : ℕ} {c : K.group.Carrier} {r : ℕ} → Gives K net loads s u v c r → s ≡ Back k → 0 < get_or loads k 0
-    back_loaded (forth j w' known' space) e = let z : ◌≡◌ {A = ℕ} 0 1 = cc in absurd (omega arith)
+    back_loaded (forth j w' known' space) e = cc
     back_loaded (behind j w' known' loaded) e = let q : j ≡ k = cc in subst (λ i. 0 < get_or loads i 0) q loaded
 
     leg_ahead : (room : ℕ) → room ≡ w.limit - get_or loads k 0 → LegIf (Ahead k) (record { from = w.tail; to = w.head; cost = w.cost; room = room })
@@ -84,9 +65,6 @@ module _ {C R : Type 0} (K : Kind C R) (net : Net C) (loads : List ℕ) where
 
   -- from the answers about the way
   module _ (k : ℕ) (e : Ends) (x : C) (ends : Some e ≡ ends_of (slice_get net.ways k)) (cost : Some x ≡ cost_of (slice_get net.ways k)) where
-    pub way_below : k < length net.ways
-    way_below = slice_get_within net.ways k _ (way_known _ e x ends cost)
-
     module _ (s : Step) (along : k ≡ way_of s) (j : ℕ) where
       pub ahead : (room : ℕ) → s ≡ Ahead j → room ≡ e.limit - get_or loads k 0 → LegIf s (record { from = e.tail; to = e.head; cost = x; room = room })
       ahead room q is =

@@ -1,41 +1,36 @@
 -- Marks spread along steps and walks, and tell the reach of a place in the end.
-use Rattle.std.proofs.Common.{◌≡◌, ℕ, zero, suc, ◌+◌, ◌<◌, ◌≤◌, Bool, true, false, ◌||◌, ◌≢◌, ◌⊎◌, List, [], ◌∷◌, ◌++◌, length, get_or, take, drop, set, replicate, Some, sym, refl, ap, ◌∙◌, subst, inl, inr, ⊎_elim, arith}
+use Rattle.std.proofs.Common.{◌≡◌, ℕ, ◌+◌, ◌<◌, ◌≤◌, Bool, true, false, ◌||◌, ◌≢◌, ◌⊎◌, List, [], ◌∷◌, ◌++◌, length, get_or, take, drop, set, replicate, Some, sym, refl, ap, ◌∙◌, subst, inl, inr, ⊎_elim, arith}
 use Rattle.std.specs.List.{slice_get, AllByRecursion}
-use Rattle.std.proofs.lemmas.List.{length-replicate, length-take-le}
+use Rattle.std.proofs.lemmas.List.{get_or_append_left, length-append, length-replicate, length-take-le}
+use Rattle.std.proofs.lemmas.Option.{slice_get-get_or, slice_get_within, get_or_from_slice_get}
 use Rattle.std.proofs.lemmas.Slice.{drop-append-drop}
 use Rattle.std.proofs.lemmas.Bool.{cases_eq, or_parts, false≢true}
 use Rattle.costs.specs.Kind.{Kind}
 use Rattle.networks.specs.Net.{Net}
 use Rattle.plan.specs.declared.step.Step.{Step}
 use Rattle.plan.specs.declared.step.Step.TheVariants.{Ahead, Back}
-use Rattle.plan.specs.Legs.{IsShut}
 use Rattle.plan.specs.Marks.{On, Extended, Led, Grown, Spread, Spreads, Tells}
 use Rattle.plan.specs.Questions.{Marked}
 use Rattle.plan.specs.Standing.{Inside}
 use Rattle.plan.specs.Steps.{Apart, Gives, Leads, there, then, Reach}
 use Rattle.plan.specs.Sweeps.{way_of}
-use Rattle.plan.proofs.Noting.{nth_set_same, nth_set_other}
+use Rattle.plan.proofs.Bridge.{given}
+use Rattle.plan.proofs.Noting.{nth_set_same, nth_set_other, nth_replicate}
 use Rattle.plan.proofs.Trying.{along, gives_way}
-use Rattle.plan.proofs.Walking.{gives_room, leads_last}
+use Rattle.plan.proofs.Walking.{leads_join, leads_last}
 use Rattle.plan.proofs.Walks.{one_step, route_short}
 
--- an entry within the marks is there
-nth_mark : (m : List ℕ) (v : ℕ) → v < length m → slice_get m v ≡ Some (get_or m v 0)
-nth_mark [] v l = absurd (omega arith)
-nth_mark (x ∷ m) zero l = refl
-nth_mark (x ∷ m) (suc v) l = nth_mark m v (omega arith)
-
 is_mark : (m : List ℕ) (v : ℕ) → v < length m → get_or m v 0 ≡ 1 → On m v
-is_mark m v l e = nth_mark m v l ∙ ap (λ x. Some x) e
+is_mark m v l e = slice_get-get_or m v 0 l ∙ ap (λ x. Some x) e
 
-mark_is : (m : List ℕ) (v : ℕ) → v < length m → On m v → get_or m v 0 ≡ 1
-mark_is m v l e = let n = nth_mark m v l in (cc)
+mark_is : (m : List ℕ) (v : ℕ) → On m v → get_or m v 0 ≡ 1
+mark_is m v on = get_or_from_slice_get m v 1 0 on
 
 -- `from` has no mark, or `to` has one
 pub unextended : (u v : ℕ) (m : List ℕ) → u < length m → v < length m → (get_or m u 0 ≢ 1) ⊎ (get_or m v 0 ≡ 1) → Extended u v m m false
 unextended u v m l k e = record {
   only = λ w. inl refl;
-  met = λ on. ⊎_elim (λ ne. absurd (ne (mark_is m u l on))) (is_mark m v k) e;
+  met = λ on. ⊎_elim (λ ne. absurd (ne (mark_is m u on))) (is_mark m v k) e;
   same = λ _. refl;
 }
 
@@ -50,14 +45,6 @@ extended u v m l k e = record {
 }
 
 module _ {C R : Type 0} (K : Kind C R) (net : Net C) (loads : List ℕ) where
-  -- one walk after another
-  leads_join : {x u v w : ℕ} {ss rs : List Step} {vs ws : List ℕ} {c d : K.group.Carrier} → Leads K net loads x u ss vs v c → Leads K net loads x v rs ws w d →
-      Leads K net loads x u (ss ++ rs) (vs ++ ws) w (K.group.plus c d)
-  leads_join {x} {w = w} {rs = rs} {ws = ws} {d = d} (there u) q = subst (Leads K net loads x u rs ws w) (sym (K.group.unit d)) q
-  leads_join {x} {w = w} {rs = rs} {ws = ws} {d = d} (then u v₀ v s ss vs c e r g l p) q =
-      subst (Leads K net loads x u (s ∷ (ss ++ rs)) (v₀ ∷ (vs ++ ws)) w) (sym (K.group.assoc c e d))
-      (then u v₀ w s (ss ++ rs) (vs ++ ws) c (K.group.plus e d) r g l (leads_join p q))
-
   -- a route that meets u, from there; or it does not meet u
   rest_of : (u : ℕ) {a v : ℕ} {ss : List Step} {vs : List ℕ} {c : K.group.Carrier} → Leads K net loads 1 a ss vs v c → Apart (a ∷ vs) → AllByRecursion (λ y. u ≢ y) (a ∷ vs) ⊎ Reach K net loads u v
   rest_of u (there a) apart =
@@ -96,7 +83,7 @@ module _ {C R : Type 0} (K : Kind C R) (net : Net C) (loads : List ℕ) where
         met = b.met ++ p.met;
         cost = K.group.plus b.cost p.cost;
         on = b.on;
-        leads = leads_join b.leads p.leads;
+        leads = leads_join K net loads b.leads p.leads;
       })
       (grown.each p.place)
 
@@ -109,12 +96,6 @@ module _ {C R : Type 0} (K : Kind C R) (net : Net C) (loads : List ℕ) where
         (q.each v);
   }
 
-  grown_none : (m : List ℕ) → Grown K net loads m m
-  grown_none m = record { each = λ v. inl refl }
-
-  pub spread_none : {done : Step → Type 0} (m : List ℕ) → ((s : Step) (u v : ℕ) (c : K.group.Carrier) (r : ℕ) → Gives K net loads s u v c r → done s → ⊥) → Spread K net loads done m m false
-  spread_none m never = record { grown = grown_none m; met = λ s u v c r g d on. absurd (never s u v c r g d); same = λ _. refl }
-
   spread_as : {A B : Step → Type 0} {m m' : List ℕ} {told : Bool} → ((s : Step) (u v : ℕ) (c : K.group.Carrier) (r : ℕ) → Gives K net loads s u v c r → B s → A s) →
       Spread K net loads A m m' told → Spread K net loads B m m' told
   spread_as sub p = record { grown = p.grown; met = λ s u v c r g b on. p.met s u v c r g (sub s u v c r g b) on; same = p.same }
@@ -126,10 +107,6 @@ module _ {C R : Type 0} (K : Kind C R) (net : Net C) (loads : List ℕ) where
         ⊎_elim (λ x. keeps q.grown v (p.met s u v c r g x on)) (λ x. q.met s u v c r g x (keeps p.grown u on)) d;
     same = λ e. let o = or_parts a b e in q.same o.1 ∙ p.same o.0;
   }
-
-  -- along a step that leads nowhere
-  pub by_none : {s : Step} (m : List ℕ) → IsShut K net loads s → Spread K net loads (λ s'. s' ≡ s) m m false
-  by_none m shut = spread_none m (λ s' u v c r g e. shut u v c r (subst (λ z. Gives K net loads z u v c r) e g))
 
   -- along one step
   pub by_step : {s : Step} {u v r : ℕ} {c : K.group.Carrier} {m m' : List ℕ} {told : Bool} → Gives K net loads s u v c r → Extended u v m m' told → Spread K net loads (λ s'. s' ≡ s) m m' told
@@ -145,7 +122,7 @@ module _ {C R : Type 0} (K : Kind C R) (net : Net C) (loads : List ℕ) where
               cost = K.group.plus c K.group.zero;
               on = q.1;
               leads = subst (λ y. Leads K net loads 1 u (s ∷ []) (v ∷ []) y (K.group.plus c K.group.zero)) (sym q.0)
-                  (then u v v s [] [] c K.group.zero r g (gives_room K net loads g) (there v));
+                  (then u v v s [] [] c K.group.zero r g (given K net loads g).some (there v));
             },
           ))
           (p.only x);
@@ -170,13 +147,6 @@ module _ {C R : Type 0} (K : Kind C R) (net : Net C) (loads : List ℕ) where
   -- at the end every way was swept
   pub sweep_all : (n : ℕ) → length net.ways ≤ n → {m m' : List ℕ} {told : Bool} → Spread K net loads (λ s. way_of s < n) m m' told → Spread K net loads (λ s. Unit {0}) m m' told
   sweep_all n l p = spread_as (λ s u v c r g _. omega (arith, gives_way K net loads g)) p
-
-  pub spreads_none : (m : List ℕ) → Spreads K net loads 0 m m
-  spreads_none m = record { grown = grown_none m; short = λ u ss vs v c p l on. stays p l on }
-    where
-      stays : {u v : ℕ} {ss : List Step} {vs : List ℕ} {c : K.group.Carrier} → Leads K net loads 1 u ss vs v c → length ss ≤ 0 → On m u → On m v
-      stays (there u) l on = on
-      stays (then u a v s ss vs c d r g room p) l on = absurd (omega arith)
 
   -- one sweep more
   pub spreads_more : (n : ℕ) (m m' m'' : List ℕ) (told : Bool) → Spreads K net loads n m m' → Spread K net loads (λ s. Unit {0}) m' m'' told → Spreads K net loads (n + 1) m m''
@@ -204,25 +174,20 @@ module _ {C R : Type 0} (K : Kind C R) (net : Net C) (loads : List ℕ) where
     abbrev alone : List ℕ
     alone = set (replicate n 0) u 1
 
-    zeros : (n v : ℕ) → v < n → slice_get {X = ℕ} (replicate n 0) v ≡ Some 0
-    zeros zero v l = absurd (omega arith)
-    zeros (suc n) zero l = refl
-    zeros (suc n) (suc v) l = zeros n v (omega arith)
-
-    no_ones : (n v : ℕ) → On (replicate n 0) v → ⊥
-    no_ones zero v e = let z : ◌≡◌ {A = ℕ} 0 1 = cc in omega arith
-    no_ones (suc n) zero e = let z : ◌≡◌ {A = ℕ} 0 1 = cc in omega arith
-    no_ones (suc n) (suc v) e = no_ones n v e
+    no_ones : (v : ℕ) → On (replicate n 0) v → ⊥
+    no_ones v e =
+        let zero_there : slice_get {X = ℕ} (replicate n 0) v ≡ Some 0 = nth_replicate n v 0 (omega (arith, slice_get_within (replicate n 0) v 1 e, length-replicate {A = ℕ} n 0)) in
+        cc
 
     on_here : On alone u
     on_here = nth_set_same (replicate n 0) u 1 (omega (arith, within, long, length-replicate {A = ℕ} n 0))
 
     only_here : (v : ℕ) → On alone v → v ≡ u
     only_here v on =
-        ⊎_elim (λ e. e) (λ (ne : v ≡ u → ⊥). absurd (no_ones n v (sym (nth_set_other (replicate n 0) u v 1 ne) ∙ on))) (cases_eq v u)
+        ⊎_elim (λ e. e) (λ (ne : v ≡ u → ⊥). absurd (no_ones v (sym (nth_set_other (replicate n 0) u v 1 ne) ∙ on))) (cases_eq v u)
 
-    pub tells : (m m' : List ℕ) → m ≡ alone → (limit : ℕ) → net.places ≤ limit + 1 → Spreads K net loads limit m m' → Tells K net loads u m'
-    tells m m' e limit enough spreads v l = ⊎_elim same new (spreads.grown.each v)
+    pub tells : (m m' : List ℕ) → m ≡ alone → Spreads K net loads net.places m m' → Tells K net loads u m'
+    tells m m' e spreads v l = ⊎_elim same new (spreads.grown.each v)
       where
         led : Led K net loads m v → Reach K net loads u v
         led p = let q = only_here p.place (subst (λ x. On x p.place) e p.on) in
@@ -234,7 +199,7 @@ module _ {C R : Type 0} (K : Kind C R) (net : Net C) (loads : List ℕ) where
         reached : Reach K net loads u v → On m' v
         reached r =
             let short = route_short K net loads ends within r.2 in
-            spreads.short u r.0 r.2.met v r.1 r.2.leads (omega (arith, short, enough)) (subst (λ x. On x u) (sym e) on_here)
+            spreads.short u r.0 r.2.met v r.1 r.2.leads (omega (arith, short)) (subst (λ x. On x u) (sym e) on_here)
 
         same : slice_get m' v ≡ slice_get m v → (Reach K net loads u v × (slice_get m' v ≡ Some 1)) ⊎ ((Reach K net loads u v → ⊥) × (slice_get m' v ≡ Some 0))
         same q =
@@ -243,8 +208,8 @@ module _ {C R : Type 0} (K : Kind C R) (net : Net C) (loads : List ℕ) where
             let on : On m v = subst (λ x. On x v) (sym e) (subst (On alone) (sym h) on_here) in
             inl (led (record { place = v; steps = []; met = []; cost = K.group.zero; on = on; leads = there v }), q ∙ on))
             (λ (ne : v ≡ u → ⊥).
-            let zero_at : slice_get m' v ≡ Some 0 = q ∙ ap (λ x. slice_get x v) e ∙ nth_set_other (replicate n 0) u v 1 ne ∙ zeros n v (omega (arith, l, long)) in
-            inr (λ r. let on = reached r in let z : ◌≡◌ {A = ℕ} 0 1 = cc in omega arith, zero_at))
+            let zero_at : slice_get m' v ≡ Some 0 = q ∙ ap (λ x. slice_get x v) e ∙ nth_set_other (replicate n 0) u v 1 ne ∙ nth_replicate n v 0 (omega (arith, l, long)) in
+            inr (λ r. let on = reached r in cc, zero_at))
             (cases_eq v u)
 
   -- marks of the first n entries of a longer table
@@ -260,6 +225,5 @@ module _ {C R : Type 0} (K : Kind C R) (net : Net C) (loads : List ℕ) where
       }
     where
       nth_before : (xs ys : List ℕ) (v : ℕ) → v < length xs → slice_get (xs ++ ys) v ≡ slice_get xs v
-      nth_before [] ys v l = absurd (omega arith)
-      nth_before (x ∷ xs) ys zero l = refl
-      nth_before (x ∷ xs) ys (suc v) l = nth_before xs ys v (omega arith)
+      nth_before xs ys v l =
+          slice_get-get_or (xs ++ ys) v 0 (omega (arith, l, length-append xs ys)) ∙ ap (λ x. Some x) (get_or_append_left xs ys 0 v l) ∙ sym (slice_get-get_or xs v 0 l)

@@ -40,14 +40,14 @@ module _ {C R : Type 0} (K : Kind C R) (rests : List ℤ) (rows : List R) (notes
   pub not_seen : (x : K.group.Carrier) → is_seen (get_or notes v Unseen) ≡ false → Wants K rests Tables v x → ⊥
   not_seen x s w =
       let e : None ≡ Some x = sym (ap (λ b. cond b (option_map (values K) (slice_get rows v)) None) s) ∙ w.is in
-      let z : ◌≡◌ {A = ℕ} 0 1 = cc in omega arith
+      cc
 
   pub wanted_value : (x : K.group.Carrier) → Wants K rests Tables v x → option_map (values K) (slice_get rows v) ≡ Some x
   wanted_value x w = by_mark (is_seen (get_or notes v Unseen)) w.is
     where
       by_mark : (b : Bool) → cond b (option_map (values K) (slice_get rows v)) None ≡ Some x → option_map (values K) (slice_get rows v) ≡ Some x
       by_mark true h = h
-      by_mark false h = absurd (let z : ◌≡◌ {A = ℕ} 0 1 = cc in omega arith)
+      by_mark false h = cc
 
   one_entry : (x y : K.group.Carrier) → Wants K rests Tables v x → Wants K rests Tables v y → x ≡ y
   one_entry x y p q = let a = p.is in let b = q.is in (cc)

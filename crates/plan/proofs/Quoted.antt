@@ -1,5 +1,5 @@
 -- A search from everywhere leaves the prices, unless some ring costs less than zero.
-use Rattle.std.proofs.Common.{◌≡◌, ℕ, ◌<◌, Bool, true, false, cond, List, drop, Some, None, MatchBool, Option, sym, refl, ◌∙◌, subst, arith}
+use Rattle.std.proofs.Common.{◌≡◌, ℕ, ◌<◌, Bool, true, false, cond, List, drop, Some, None, MatchBool, Option, sym, refl, ◌∙◌, subst}
 use Rattle.std.specs.List.{slice_get}
 use Rattle.std.specs.Option.{option_map}
 use Rattle.costs.specs.Kind.{Kind, values}
@@ -16,14 +16,8 @@ use Rattle.plan.proofs.Nearing.{nth_front}
 -- an entry is what some row stands for
 row_of : {C R : Type 0} (K : Kind C R) (b : Bool) (o : Option R) (x : K.group.Carrier) → cond b (option_map (values K) o) None ≡ Some x → (r : R) × (o ≡ Some r) × (x ≡ values K r)
 row_of K true (Some r) x e = (r, refl, cc)
-row_of K true None x e = absurd (none_some x e)
-  where
-    none_some : {A : Type 0} (x : A) → None ≡ Some x → ⊥
-    none_some x q = let z : ◌≡◌ {A = ℕ} 0 1 = cc in omega arith
-row_of K false o x e = absurd (none_some x e)
-  where
-    none_some : {A : Type 0} (x : A) → None ≡ Some x → ⊥
-    none_some x q = let z : ◌≡◌ {A = ℕ} 0 1 = cc in omega arith
+row_of K true None x e = cc
+row_of K false o x e = cc
 
 module _ {C R : Type 0} (K : Kind C R) (net : Net C) (f : List ℕ) (t : Work R) where
   priced : (Losing K net f → ⊥) → Searched K net f (λ v. v < net.places) (front net.places t) true → (v : ℕ) → v < net.places →

@@ -24,8 +24,7 @@ module _ {C R : Type 0} (K : Kind C R) (t : Work R) (s : Step) (u v : ℕ) (cost
       (λ s' u' v' c' x d e.
       let eu : u' ≡ u = d.1 in
       let none : None ≡ Some x = sym (noted_unseen (values K) t u m) ∙ ap (entry K t) (sym eu) ∙ e in
-      let z : ◌≡◌ {A = ℕ} 0 1 = cc in
-      absurd (omega arith))
+      cc)
 
   module _ (near next : C) (near-is : entry K t u ≡ Some (K.value near)) (sum : K.value next ≡ K.group.plus (K.value near) (K.value cost)) where
     -- the entry of v is no greater

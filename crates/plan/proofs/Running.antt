@@ -11,10 +11,12 @@ use Rattle.plan.specs.Steps.{Gives, Leads}
 use Rattle.plan.specs.Steps.Leads.{there, then}
 use Rattle.plan.specs.Sweeps.{Moves, Swept, Left}
 use Rattle.plan.specs.Sweeps.Moves.{stay, move}
+use Rattle.plan.proofs.Bridge.{given}
+use Rattle.plan.proofs.Flow.{unit_of}
 use Rattle.plan.proofs.Noting.{noted_same, noted_other, noted_within}
 use Rattle.plan.proofs.Sweeping.{most_is, most_le, below_le, moves_grow, moves_kept, moves_join}
 use Rattle.plan.proofs.Tracing.{moves_traced}
-use Rattle.plan.proofs.Walking.{plus_zero, gives_room, leads_more, leads_last}
+use Rattle.plan.proofs.Walking.{leads_more, leads_last}
 
 module _ {C R : Type 0} (K : Kind C R) (net : Net C) (loads : List ℕ) where
   abbrev G : Group
@@ -28,7 +30,7 @@ module _ {C R : Type 0} (K : Kind C R) (net : Net C) (loads : List ℕ) where
     pub weight : (b : ℕ) → Under K t b → Under K t' (b + n * (2000000 * length net.ways))
 
   stays : (t : Work R) {u v : ℕ} {x c : G.Carrier} {ss : List Step} {vs : List ℕ} → entry K t u ≡ Some x → Leads K net loads 1 u ss vs v c → length ss ≤ 0 → Most G (entry K t v) (G.plus x c)
-  stays t {x} e (there u) l = most_is G (e ∙ ap (λ y. Some y) (sym (plus_zero G x)))
+  stays t {x} e (there u) l = most_is G (e ∙ ap (λ y. Some y) (sym (unit_of G x)))
   stays t e (then u v w s ss vs c d r g room p) l = absurd (omega arith)
 
   pub ran_none : (t : Work R) → Ran 0 t t
@@ -80,14 +82,14 @@ module _ {C R : Type 0} (K : Kind C R) (net : Net C) (loads : List ℕ) where
     steps = [];
     cost = G.zero;
     walk = record { met = []; from = e; leads = there v };
-    sum = sym (plus_zero G y);
+    sum = sym (unit_of G y);
     start = noted_within (values K) t v y e;
   }
   moves_walked {t} (move {t'} m s u v c x a near h r sum better) w y e =
       ⊎_elim
       (λ (q : w ≡ v).
       let far = moves_walked m u x near in
-      let leads = leads_more K net loads far.walk.leads a.1 (gives_room K net loads a.1) in
+      let leads = leads_more K net loads far.walk.leads a.1 (given K net loads a.1).some in
       let some : Some (values K r) ≡ Some y = sym (ap (entry K (write t' v r s)) q ∙ noted_same (values K) t' v r s h) ∙ e in
       let is : values K r ≡ y = cc in
       subst (λ i. Walked K net loads t i y) (sym q) (record {
@@ -118,7 +120,7 @@ module _ {C R : Type 0} (K : Kind C R) (net : Net C) (loads : List ℕ) where
   -- where no step improves an entry, no walk does
   least_of : (t : Work R) → ((s : Step) (u v : ℕ) (c x : G.Carrier) (room : ℕ) → Gives K net loads s u v c room → entry K t u ≡ Some x → Most G (entry K t v) (G.plus x c))
       → {n u v : ℕ} {x c : G.Carrier} {ss : List Step} {vs : List ℕ} → Leads K net loads n u ss vs v c → Most G (entry K t u) x → Most G (entry K t v) (G.plus x c)
-  least_of t closed {x} (there u) m = subst (Most G (entry K t u)) (sym (plus_zero G x)) m
+  least_of t closed {x} (there u) m = subst (Most G (entry K t u)) (sym (unit_of G x)) m
   least_of t closed {x} (then u v w s ss vs c d r g room p) m =
       let next = closed s u v c m.value r g m.is in
       let most : Most G (entry K t v) (G.plus x c) = most_le G next (G.shift m.value x c m.most) in

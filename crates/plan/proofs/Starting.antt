@@ -3,8 +3,8 @@ use Rattle.std.proofs.Common.{◌≡◌, ℕ, zero, suc, ◌<◌, cond, ◌⊎�
 use Rattle.std.specs.List.{slice_get}
 use Rattle.std.specs.Option.{option_map}
 use Rattle.std.proofs.lemmas.Bool.{cases_eq, cases_lt}
-use Rattle.std.proofs.lemmas.List.{get_or-set_other, get_or-replicate, get_or_past, length-replicate}
-use Rattle.std.proofs.lemmas.Option.{slice_get-get_or, get_or_from_slice_get}
+use Rattle.std.proofs.lemmas.List.{get_or-set_other, get_or_past, length-replicate}
+use Rattle.std.proofs.lemmas.Option.{get_or_from_slice_get}
 use Rattle.costs.specs.Kind.{Kind, values, weights}
 use Rattle.plan.specs.declared.note.Note.{Note}
 use Rattle.plan.specs.declared.note.Note.TheVariants.{Unseen, Start}
@@ -12,12 +12,7 @@ use Rattle.plan.specs.declared.starts.Starts.{Starts}
 use Rattle.plan.specs.declared.starts.Starts.TheVariants.{At, Everywhere}
 use Rattle.plan.specs.Entries.{Work, is_seen, noted}
 use Rattle.plan.specs.Starts.{Zeros, IsStart}
-use Rattle.plan.proofs.Noting.{nth_set_same, noted_unseen}
-
--- what stands in n times the same
-nth_replicate : {X : Type 0} (n v : ℕ) (x : X) → v < n → slice_get (replicate n x) v ≡ Some x
-nth_replicate n v x l =
-    slice_get-get_or (replicate n x) v x (omega (arith, l, length-replicate n x)) ∙ ap (λ y. Some y) (get_or-replicate n v x x l)
+use Rattle.plan.proofs.Noting.{nth_set_same, nth_replicate, noted_unseen}
 
 unseen : (n v : ℕ) → get_or (replicate n Unseen) v Unseen ≡ Unseen
 unseen zero v = refl
@@ -47,8 +42,7 @@ module _ {R : Type 0} (starts : ℕ → Type 0) (t : Work R) (r : R)
         (s, is))
         (λ q.
         let none : None ≡ Some x = sym (noted_unseen f t v (ap is_seen q)) ∙ e in
-        let z : ◌≡◌ {A = ℕ} 0 1 = cc in
-        absurd (omega arith))
+        cc)
         (off v)
 
     pub zeros : {C : Type 0} (K : Kind C R) (z : C) → K.value z ≡ K.group.zero → r ≡ K.row_of z → Zeros K starts t

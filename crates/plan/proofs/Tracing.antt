@@ -11,8 +11,11 @@ use Rattle.plan.specs.Rounds.{Came, Traced}
 use Rattle.plan.specs.Steps.{Gives}
 use Rattle.plan.specs.Sweeps.{Moves, Left}
 use Rattle.plan.specs.Sweeps.Moves.{stay, move}
+use Rattle.plan.proofs.Costs.{undo}
 use Rattle.plan.proofs.Noting.{nth_set_same, nth_set_other, noted_same, noted_other}
-use Rattle.plan.proofs.Walking.{cancel}
+
+cancel : (G : Group) (x y z : G.Carrier) → G.plus x z ≡ G.plus y z → x ≡ y
+cancel G x y z e = sym (undo G x z) ∙ ap (λ w. G.plus w (G.opp z)) e ∙ undo G y z
 
 module _ {C R : Type 0} (K : Kind C R) (net : Net C) (loads : List ℕ) (t : Work R) where
   abbrev G : Group

@@ -1,9 +1,10 @@
 -- Following the noted steps back from a place comes to where the search began, along a cheapest route.
-use Rattle.std.proofs.Common.{◌≡◌, ℕ, ◌+◌, ◌<◌, ◌≤◌, min, true, ◌≢◌, ◌⊎◌, List, [], ◌∷◌, reverse, length, take, set, Some, None, sym, refl, ap, ◌∙◌, subst, ⊎_elim, arith}
+use Rattle.std.proofs.Common.{◌≡◌, ℕ, ◌+◌, ◌<◌, ◌≤◌, min, true, ◌≢◌, ◌⊎◌, List, [], ◌∷◌, reverse, length, get_or, take, set, Some, None, sym, refl, ap, ◌∙◌, subst, ⊎_elim, arith}
 use lib.ListN.{length-reverse}
 use Rattle.std.specs.List.{slice_get, AllByRecursion}
 use Rattle.std.proofs.ByRecursion.{All-weaker}
 use Rattle.std.proofs.lemmas.List.{reverse-append, take_more_set, length-take-le}
+use Rattle.std.proofs.lemmas.Option.{slice_get_read}
 use Rattle.costs.specs.Kind.{Kind}
 use Rattle.networks.specs.Net.{Net}
 use Rattle.plan.specs.declared.note.Note.{Note}
@@ -26,6 +27,10 @@ path_more path i s l = ap reverse (take_more_set path i s l) ∙ reverse-append 
 
 path_length : (path : List Step) (i : ℕ) → i ≤ length path → length (on_path i path) ≡ i
 path_length path i l = length-reverse (take i path) ∙ length-take-le i path l
+
+-- the note that was read
+pub note_is : (notes : List Note) (at : ℕ) (n m : Note) → at < length notes → n ≡ get_or notes at n → n ≡ m → slice_get notes at ≡ Some m
+note_is notes at n m l e is = slice_get_read notes (length notes) at n refl l e ∙ ap (λ x. Some x) is
 
 module _ {C R : Type 0} (K : Kind C R) (net : Net C) (loads : List ℕ) where
   -- steps ss lead from `at`, whose entry and their cost are y, to `to`, and `left` is the smallest of `amount` and their rooms
@@ -106,17 +111,17 @@ module _ {C R : Type 0} (K : Kind C R) (net : Net C) (loads : List ℕ) where
       far_noted none = ⊎_elim (λ s. let q = s.2 in unlike q none) (λ k. let q = k.note in unlike q none) noted
         where
           unlike : {n : Note} → slice_get notes at ≡ Some n → slice_get notes at ≡ None → ⊥
-          unlike p q = let z : ◌≡◌ {A = ℕ} 0 1 = cc in omega arith
+          unlike p q = cc
 
       pub far_seen : slice_get notes at ≡ Some Unseen → ⊥
-      far_seen unseen = ⊎_elim (λ s. let q = s.2 in let z : ◌≡◌ {A = ℕ} 0 1 = cc in omega arith) (λ k. let q = k.note in let z : ◌≡◌ {A = ℕ} 0 1 = cc in omega arith) noted
+      far_seen unseen = ⊎_elim (λ s. let q = s.2 in cc) (λ k. let q = k.note in cc) noted
 
       pub far_begins : slice_get notes at ≡ Some Start → (at ≡ from) × (far.value ≡ K.group.zero)
-      far_begins start = ⊎_elim (λ s. (s.0, s.1)) (λ k. let q = k.note in let z : ◌≡◌ {A = ℕ} 0 1 = cc in absurd (omega arith)) noted
+      far_begins start = ⊎_elim (λ s. (s.0, s.1)) (λ k. let q = k.note in cc) noted
 
       module _ (s : Step) (note : slice_get notes at ≡ Some (Via s)) where
         came : Came K net loads t rank at far.value
-        came = ⊎_elim (λ p. let q = p.2 in let z : ◌≡◌ {A = ℕ} 0 1 = cc in absurd (omega arith)) (λ k. k) noted
+        came = ⊎_elim (λ p. let q = p.2 in cc) (λ k. k) noted
 
         came_step : came.step ≡ s
         came_step = let n = came.note in cc
@@ -177,7 +182,6 @@ module _ {C R : Type 0} (K : Kind C R) (net : Net C) (loads : List ℕ) where
           let long = path_length path i (omega arith) in
           record {
             short = omega (arith, long, route_short K net loads e.inside begins_inside one);
-            fits = l;
             some = λ ne. omega (arith, long, leads_some leads ne);
             one = one;
             route = record { met = far.met; leads = rooms_lead K net loads far.rooms leads; apart = apart };

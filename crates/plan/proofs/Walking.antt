@@ -1,37 +1,29 @@
--- Walks: one step more at the end, and the last step apart.
-use Rattle.std.proofs.Common.{◌≡◌, ℕ, suc, ◌≤◌, List, [], ◌∷◌, ◌++◌, length, sym, refl, ap, ◌∙◌, subst, arith}
+-- Walks: one after another, one step more at the end, and the last step apart.
+use Rattle.std.proofs.Common.{◌≡◌, ℕ, suc, ◌≤◌, List, [], ◌∷◌, ◌++◌, length, sym, refl, ap, ◌∙◌, subst}
 use Rattle.costs.specs.Group.{Group}
 use Rattle.costs.specs.Kind.{Kind}
 use Rattle.networks.specs.Net.{Net}
 use Rattle.plan.specs.declared.step.Step.{Step}
 use Rattle.plan.specs.Steps.{Gives, Leads}
-use Rattle.plan.specs.Steps.Gives.{forth, behind}
 use Rattle.plan.specs.Steps.Leads.{there, then}
-
-module _ (G : Group) where
-  pub plus_zero : (x : G.Carrier) → G.plus x G.zero ≡ x
-  plus_zero x = G.comm x G.zero ∙ G.unit x
-
-  undo : (x z : G.Carrier) → G.plus (G.plus x z) (G.opp z) ≡ x
-  undo x z = G.assoc x z (G.opp z) ∙ ap (G.plus x) (G.inverse z) ∙ plus_zero x
-
-  pub cancel : (x y z : G.Carrier) → G.plus x z ≡ G.plus y z → x ≡ y
-  cancel x y z e = sym (undo x z) ∙ ap (λ w. G.plus w (G.opp z)) e ∙ undo y z
+use Rattle.plan.proofs.Flow.{unit_of}
 
 module _ {C R : Type 0} (K : Kind C R) (net : Net C) (loads : List ℕ) where
   abbrev G : Group
   G = K.group
 
-  pub gives_room : {s : Step} {u v : ℕ} {c : G.Carrier} {r : ℕ} → Gives K net loads s u v c r → 1 ≤ r
-  gives_room (forth k w known space) = omega arith
-  gives_room (behind k w known loaded) = omega arith
+  -- one walk after another
+  pub leads_join : {x u v w : ℕ} {ss rs : List Step} {vs ws : List ℕ} {c d : G.Carrier} → Leads K net loads x u ss vs v c → Leads K net loads x v rs ws w d →
+      Leads K net loads x u (ss ++ rs) (vs ++ ws) w (G.plus c d)
+  leads_join {x} {w = w} {rs = rs} {ws = ws} {d = d} (there u) q = subst (Leads K net loads x u rs ws w) (sym (G.unit d)) q
+  leads_join {x} {w = w} {rs = rs} {ws = ws} {d = d} (then u v₀ v s ss vs c e r g l p) q =
+      subst (Leads K net loads x u (s ∷ (ss ++ rs)) (v₀ ∷ (vs ++ ws)) w) (sym (G.assoc c e d))
+      (then u v₀ w s (ss ++ rs) (vs ++ ws) c (G.plus e d) r g l (leads_join p q))
 
-  pub leads_more : {x u v w : ℕ} {s : Step} {ss : List Step} {vs : List ℕ} {c d : G.Carrier} {r : ℕ}
-      → Leads K net loads x u ss vs v c → Gives K net loads s v w d r → x ≤ r → Leads K net loads x u (ss ++ s ∷ []) (vs ++ w ∷ []) w (G.plus c d)
-  leads_more {x} {u} {v} {w} {s} {ss} {vs} {c} {d} {r} (there _) g l =
-      subst (λ y. Leads K net loads x u (s ∷ []) (w ∷ []) w y) (plus_zero G d ∙ sym (G.unit d)) (then u w w s [] [] d G.zero r g l (there w))
-  leads_more {x} {w} {s} {d} {r} (then u v v' s' ss vs c e r' g' l' p) g l =
-      subst (λ y. Leads K net loads x u (s' ∷ (ss ++ s ∷ [])) (v ∷ (vs ++ w ∷ [])) w y) (sym (G.assoc c e d)) (then u v w s' (ss ++ s ∷ []) (vs ++ w ∷ []) c (G.plus e d) r' g' l' (leads_more p g l))
+  pub leads_more : {x u v w : ℕ} {s : Step} {ss : List Step} {vs : List ℕ} {c d : G.Carrier} {r : ℕ} →
+      Leads K net loads x u ss vs v c → Gives K net loads s v w d r → x ≤ r → Leads K net loads x u (ss ++ s ∷ []) (vs ++ w ∷ []) w (G.plus c d)
+  leads_more {x} {u} {v} {w} {s} {ss} {vs} {c} {d} {r} p g l =
+      subst (λ y. Leads K net loads x u (ss ++ s ∷ []) (vs ++ w ∷ []) w (G.plus c y)) (unit_of G d) (leads_join p (then v w w s [] [] d G.zero r g l (there w)))
 
   -- a walk with its last step apart
   pub record Parted (x u : ℕ) (n w : ℕ) (c : G.Carrier) : Type 0 where
@@ -63,7 +55,7 @@ module _ {C R : Type 0} (K : Kind C R) (net : Net C) (loads : List ℕ) where
         leads = there u;
         gives = g;
         long = refl;
-        sum = plus_zero G c ∙ sym (G.unit c);
+        sum = unit_of G c ∙ sym (G.unit c);
       }
       last_of u v w s ss vs c d r g l (then _ v' _ s' ss' vs' c' d' r' g' l' p) =
           let q = last_of v v' w s' ss' vs' c' d' r' g' l' p in

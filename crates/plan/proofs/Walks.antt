@@ -1,13 +1,13 @@
 -- Walks of open steps: their rooms, and how they are cut down to routes.
-use Rattle.std.proofs.Common.{◌≡◌, ℕ, ◌<◌, ◌≤◌, ◌⊎◌, List, [], ◌∷◌, ◌++◌, length, sym, ◌∙◌, subst, inl, inr, ⊎_elim, arith}
+use Rattle.std.proofs.Common.{◌≡◌, ℕ, ◌<◌, ◌≤◌, ◌⊎◌, List, ◌∷◌, length, sym, ◌∙◌, subst, inl, inr, ⊎_elim, arith}
 use Rattle.std.specs.List.{AllByRecursion}
 use Rattle.costs.specs.Kind.{Kind}
 use Rattle.networks.specs.Net.{Net}
 use Rattle.plan.specs.declared.step.Step.{Step}
 use Rattle.plan.specs.State.{State}
-use Rattle.plan.specs.Steps.{Gives, forth, behind, Leads, there, then, Route, Least, Price, Losing}
+use Rattle.plan.specs.Steps.{Gives, forth, behind, Leads, there, then, Route, Least, Losing}
 use Rattle.plan.specs.Standing.{Inside, Potential, Standing}
-use Rattle.plan.proofs.Flow.{unit_of, price_of}
+use Rattle.plan.proofs.Flow.{price_of}
 use Rattle.plan.proofs.Bridge.{seen, joined_seen, potential_seen, given, led, routed, route, losing_cheap, cheap_losing}
 use Rattle.plan.proofs.Rings.{no_cheap_ring}
 use Rattle.plan.proofs.Shorter.{simple_or, simple_short}
@@ -19,15 +19,6 @@ module _ {C R : Type 0} (K : Kind C R) (net : Net C) (f : List ℕ) where
       let a = given K net f p in
       let b = given K net f q in
       (sym a.starts ∙ b.starts, sym a.ends ∙ b.ends, sym a.costs ∙ b.costs, sym a.room ∙ b.room)
-
-  -- one step more
-  pub leads_more : {x u v w r : ℕ} {s : Step} {ss : List Step} {vs : List ℕ} {c d : K.group.Carrier} →
-      Leads K net f x u ss vs v c → Gives K net f s v w d r → x ≤ r → Leads K net f x u (ss ++ (s ∷ [])) (vs ++ (w ∷ [])) w (K.group.plus c d)
-  leads_more {x} {w = w} {r = r} {s = s} {d = d} (there u) g l =
-      subst (Leads K net f x u (s ∷ []) (w ∷ []) w) (unit_of K.group d ∙ sym (K.group.unit d)) (then u w w s [] [] d K.group.zero r g l (there w))
-  leads_more {x} {w = w} {s = s} {d = d} (then u v₀ v s₀ ss₀ vs₀ c₀ d₀ r₀ g₀ l₀ rest) g l =
-      subst (Leads K net f x u (s₀ ∷ (ss₀ ++ (s ∷ []))) (v₀ ∷ (vs₀ ++ (w ∷ []))) w) (sym (K.group.assoc c₀ d₀ d))
-      (then u v₀ w s₀ (ss₀ ++ (s ∷ [])) (vs₀ ++ (w ∷ [])) c₀ (K.group.plus d₀ d) r₀ g₀ l₀ (leads_more rest g l))
 
   -- the step has room for x, if it is open
   abbrev pub HasRoom : ℕ → Step → Type 0
@@ -91,7 +82,7 @@ module _ {C R : Type 0} (K : Kind C R) (net : Net C) (f : List ℕ) where
       (λ r. absurd (less r.steps r.route.met r.cost (route_short ends l r.route) r.route.leads r.cheaper))
       (cut_down walk)
 
-  -- there is one least cost, and one price
+  -- there is one least cost
   pub one_least : {u v : ℕ} {c d : K.group.Carrier} → Least K net f u v c → Least K net f u v d → c ≡ d
   one_least p q = K.group.antisym _ _ (p.least _ _ q.taken.1) (q.least _ _ p.taken.1)
 

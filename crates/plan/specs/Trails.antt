@@ -31,7 +31,6 @@ module _ {C R : Type 0} (K : Kind C R) (net : Net C) (loads : List ℕ) where
   -- the trail is a route from `from` to `to` at cost y, and its amount is the most that can be sent along it, up to `amount`
   pub record Trailed (from to amount : ℕ) (path : List Step) (y : K.group.Carrier) (r : Trail) : Type 0 where
     pub short : r.len < net.places
-    pub fits : r.len < length path
     pub some : from ≢ to → 1 ≤ r.len
     pub one : Route K net loads 1 from (on_path r.len path) to y
     pub route : Route K net loads r.amount from (on_path r.len path) to y

@@ -14,7 +14,7 @@ pub(crate) struct Trail {
     pub(crate) amount: u32,
 }
 
-impl<'a, N: Network> Loaded<'a, N> {
+impl<N: Network> Loaded<'_, N> {
     // Follows the noted steps back from `to` to a start, and puts them on the path. The amount is the smallest of `amount` and their rooms.
     // None if they do not come to a start before the path is full.
     pub(crate) fn trace(

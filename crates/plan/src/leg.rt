@@ -14,7 +14,7 @@ pub(crate) struct Leg<C> {
     pub(crate) room: u32,
 }
 
-impl<'a, N: Network> Loaded<'a, N> {
+impl<N: Network> Loaded<'_, N> {
     // The leg of a step, if the step has room.
     pub(crate) fn leg(&self, step: Step) -> Option<Leg<N::Cost>>
         ensures { LegOf N.Cost.Cost.kind (N.Network.means self.now.net.now) self.now.loads.now step result }

@@ -1,5 +1,5 @@
 ghost use Rattle.std.specs.Prelude.{◌≡◌, ◌<◌, ◌≤◌, length};
-ghost use Rattle.plan.specs.Marks.{Extended, Spread, Spreads, Tells};
+ghost use Rattle.plan.specs.Marks.{Extended, Spread, Spreads};
 ghost use Rattle.plan.specs.Questions.{Marked};
 
 use super::loaded::Loaded;
@@ -12,17 +12,14 @@ fn extend(marks: &mut [u8], from: usize, to: usize) -> bool
     requires within { (from < length marks.old) × (to < length marks.old) }
     ensures { Extended from to marks.old marks.new result }
 {
-    if marks[from] != 1 {
-        return false;
-    }
-    if marks[to] == 1 {
+    if marks[from] != 1 || marks[to] == 1 {
         return false;
     }
     marks[to] = 1;
     true
 }
 
-impl<'a, N: Network> Loaded<'a, N> {
+impl<N: Network> Loaded<'_, N> {
     // Marks along a step, if it has room. True if a mark is new.
     fn mark_along(&self, marks: &mut [u8], step: Step) -> bool
         requires { length marks.old ≡ (N.Network.means self.now.net.now).places }
@@ -56,7 +53,7 @@ impl<'a, N: Network> Loaded<'a, N> {
         ensures { Spreads N.Cost.Cost.kind (N.Network.means self.now.net.now) self.now.loads.now (N.Network.means self.now.net.now).places
             marks.old marks.new }
     {
-        for _i in 0..self.net.places() {
+        for _ in 0..self.net.places() {
             if !self.sweep(marks) {
                 return;
             }
@@ -64,24 +61,16 @@ impl<'a, N: Network> Loaded<'a, N> {
     }
 
     // Marks the reach of `from` with 1, and each other place with 0. A route has fewer steps than there are places, so as many sweeps suffice.
-    fn mark_from(&self, marks: &mut [u8], from: usize)
-        requires long { length marks.old ≡ (N.Network.means self.now.net.now).places }
-        requires within { from < (N.Network.means self.now.net.now).places }
-        ensures { Tells N.Cost.Cost.kind (N.Network.means self.now.net.now) self.now.loads.now from marks.new }
-    {
-        marks.fill(0);
-        marks[from] = 1;
-        self.sweeps(marks);
-    }
-
-    // Marks the reach of `from` with 1, and each other place with 0. Entries past the last place stay.
+    // Entries past the last place stay.
     pub(crate) fn mark_reach(&self, table: &mut [u8], from: usize)
         requires long { (N.Network.means self.now.net.now).places ≤ length table.old }
         requires within { from < (N.Network.means self.now.net.now).places }
         ensures { Marked N.Cost.Cost.kind (N.Network.means self.now.net.now) self.now.loads.now from
             table.old table.new }
     {
-        let places = self.net.places();
-        self.mark_from(&mut table[..places], from);
+        let marks = &mut table[..self.net.places()];
+        marks.fill(0);
+        marks[from] = 1;
+        self.sweeps(marks);
     }
 }

@@ -6,7 +6,7 @@ use super::note::Note;
 use costs::Cost;
 use networks::Network;
 
-impl<'a, N: Network> Loaded<'a, N> {
+impl<N: Network> Loaded<'_, N> {
     // Scans until nothing changes, at most as often as there are places. True if the last scan changed nothing.
     pub(crate) fn rounds(&self, rows: &mut [<N::Cost as Cost>::Row], notes: &mut [Note]) -> bool
         requires level { Level (N.Network.means self.now.net.now).places (tables rows.old notes.old) }
@@ -15,7 +15,7 @@ impl<'a, N: Network> Loaded<'a, N> {
             (tables rows.old notes.old)
             (tables rows.new notes.new) result }
     {
-        for _i in 0..self.net.places() {
+        for _ in 0..self.net.places() {
             if !self.scan(rows, notes) {
                 return true;
             }

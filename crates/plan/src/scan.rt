@@ -9,7 +9,7 @@ use super::step::Step;
 use costs::Cost;
 use networks::Network;
 
-impl<'a, N: Network> Loaded<'a, N> {
+impl<N: Network> Loaded<'_, N> {
     // Relaxes a step, if it has room. True if something changed.
     fn relax_along(
         &self,

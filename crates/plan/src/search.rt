@@ -10,7 +10,7 @@ use super::starts::Starts;
 use costs::Cost;
 use networks::Network;
 
-impl<'a, N: Network> Loaded<'a, N> {
+impl<N: Network> Loaded<'_, N> {
     // Works out what is cheapest from a start to each place. True if the last scan changed nothing. Rows past the last place stay.
     pub(crate) fn search(
         &self,

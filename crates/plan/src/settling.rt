@@ -25,21 +25,12 @@ impl Table {
             Settles N.Cost.Cost.kind (N.Network.means net.now) budget (state_of self.old) result (state_of self.new) }
     {
         for routes in 0..budget {
-            match self.route(net, work) {
-                Routed::Settled => {
-                    return Outcome {
-                        routes,
-                        ending: Ending::Settled,
-                    };
-                }
-                Routed::Blocked { at } => {
-                    return Outcome {
-                        routes,
-                        ending: Ending::Blocked { at },
-                    };
-                }
-                Routed::Sent { .. } => {}
-            }
+            let ending = match self.route(net, work) {
+                Routed::Settled => Ending::Settled,
+                Routed::Blocked { at } => Ending::Blocked { at },
+                Routed::Sent { .. } => continue,
+            };
+            return Outcome { routes, ending };
         }
         let ending = match source(self.rests.as_slice()) {
             Some(_) => Ending::Unfinished,

@@ -25,9 +25,6 @@ offset_bounds-notes-from g c =
     omega (arith, at_inside (length c.args.rows.now) c.in-At.from c.args.starts c.in-At.is c.requires.inside, c.fill.auto.self, c.requires.level) in
     search rules
 
-pub loop-row-init : goal.loop-row-init
-loop-row-init g c = λ v l. absurd (omega arith)
-
 pub loop-row-preserved : goal.loop-row-preserved
 loop-row-preserved g c =
     below_more _ _

@@ -2,12 +2,8 @@
 use Rattle.std.proofs.Common.{arith}
 use Rattle.plan.proofs.Deciding.{passed}
 use Rattle.plan.proofs.Legs.{fair_leg}
-use Rattle.plan.proofs.Marked.{by_none, by_step}
+use Rattle.plan.proofs.Marked.{by_step}
 use Rattle.plan.proofs.loaded.Loaded.mark_along.Goals as goal
-
-pub returns-in_default : goal.returns-in_default
-returns-in_default g c =
-    by_none g.N.Cost.Cost.kind (g.N.Network.means c.args.self.now.net.now) c.args.self.now.loads.now c.args.marks.now c.in_default.ensures
 
 pub extend-requires : goal.extend-requires
 extend-requires g c =

@@ -1,11 +1,7 @@
 -- A sweep takes the steps of one way after another.
 use Rattle.std.proofs.Common.{arith}
-use Rattle.plan.proofs.Marked.{spread_none, sweep_more, sweep_all}
+use Rattle.plan.proofs.Marked.{sweep_more, sweep_all}
 use Rattle.plan.proofs.loaded.Loaded.sweep.Goals as goal
-
-pub loop-k-init : goal.loop-k-init
-loop-k-init g c =
-    spread_none g.N.Cost.Cost.kind (g.N.Network.means c.args.self.now.net.now) c.args.self.now.loads.now c.args.marks.now (λ s u v x r gives l. omega (arith, l))
 
 pub loop-k-preserved : goal.loop-k-preserved
 loop-k-preserved g c =

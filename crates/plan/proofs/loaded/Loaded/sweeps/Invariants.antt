@@ -2,6 +2,6 @@
 use Rattle.plan.specs.Marks.{Spreads}
 use Rattle.plan.proofs.loaded.Loaded.sweeps.Given as goal
 
-abbrev pub invariant-loop-i : goal.invariant-loop-i
-invariant-loop-i g l =
-    Spreads g.N.Cost.Cost.kind (g.N.Network.means l.self.net.now) l.self.loads.now l._i l.initial.marks l.marks
+abbrev pub invariant-loop : goal.invariant-loop
+invariant-loop g l =
+    Spreads g.N.Cost.Cost.kind (g.N.Network.means l.self.net.now) l.self.loads.now l.counter l.initial.marks l.marks

@@ -1,33 +1,31 @@
-use Rattle.std.proofs.Common.{◌+◌, min, vec_items, vec_len, refl, ap, ◌∙◌, arith}
+-- Tracing back, sending, moving the rests and counting, of parts of the table that were lent.
+use Rattle.std.proofs.Common.{◌+◌, min, vec_items, ap, ◌∙◌, arith}
 use Rattle.std.proofs.lemmas.List.{take_at}
 use Rattle.plan.specs.Rules.{most_counted}
 use Rattle.plan.proofs.Dispatching.{dispatched_by, none_by}
 use Rattle.plan.proofs.table.Table.dispatch.Goals as goal
 
-pub returns-in_default : goal.returns-in_default
-returns-in_default g c =
+pub returns-in_default-clause-sent : goal.returns-in_default-clause-sent
+returns-in_default-clause-sent g c =
+    let table = c.args.self.now in
     let kept = c.trace.auto.path in
     let len = c.as_mut_slice-path.ensures.len in
     let made = c.requires.made.rests in
-    let level = c.args.self.now.level in
-    record {
-      long = record { loads = refl; rests = refl };
-      sent = none_by g.N.Cost.Cost.kind (g.N.Network.means c.args.net.now) c.args.self.now c.args.from c.args.to _ _ c.as_slice.ensures.value c.as_slice-2.ensures.value _
-          (λ rows y ended. c.in_default.ensures.trails rows c.args.from y ended (omega arith));
-    }
+    let level = table.level in
+    none_by g.N.Cost.Cost.kind (g.N.Network.means c.args.net.now) table c.args.from c.args.to _ _ c.as_slice.ensures.value c.as_slice-2.ensures.value _
+    (λ rows y ended. c.in_default.ensures.trails rows c.args.from y ended (omega arith))
 
-pub returns : goal.returns
-returns g c =
+pub returns-clause-sent : goal.returns-clause-sent
+returns-clause-sent g c =
+    let table = c.args.self.now in
     let kept = c.trace.auto.path in
     let len = c.as_mut_slice-path.ensures.len in
     let made = c.requires.made.rests in
-    let level = c.args.self.now.level in
-    let path = take_at c.trace.new.path _ c.args.self.now.path.len (kept ∙ len) in
-    let loads = take_at c.send.new.loads _ c.args.self.now.loads.len (c.send.auto.loads ∙ c.as_mut_slice.ensures.len) in
-    record {
-      long = record { loads = ap vec_len c.move_rests.ensures.same.0; rests = c.move_rests.ensures.same.1.1 };
-      sent = dispatched_by g.N.Cost.Cost.kind (g.N.Network.means c.args.net.now) c.args.self.now c.args.from c.args.to c.asked-asked.result c.in-Some.trail
-          _ _ _ _ _ c.trace.new.path _ _ _ c.as_slice.ensures.value c.as_mut_slice.ensures.value (ap vec_items c.move_rests.ensures.same.0 ∙ loads) c.as_slice-2.ensures.value (c.as_slice-3.ensures.value ∙ path)
-          c.asked-asked.ensures
-          (λ rows y ended. c.in-Some.ensures.trails rows c.args.from y ended (omega arith)) c.send.ensures.sent c.move_rests.ensures.moved (c.one_more-self.ensures ∙ ap (λ n. min (n + 1) most_counted) c.move_rests.ensures.same.1.0);
-    }
+    let level = table.level in
+    let path = take_at c.trace.new.path _ table.path.len (kept ∙ len) in
+    let loads = take_at c.send.new.loads _ table.loads.len (c.send.auto.loads ∙ c.as_mut_slice.ensures.len) in
+    dispatched_by g.N.Cost.Cost.kind (g.N.Network.means c.args.net.now) table c.args.from c.args.to c.asked-asked.result c.in-Some.trail
+    _ _ _ _ _ c.trace.new.path _ _ _ c.as_slice.ensures.value c.as_mut_slice.ensures.value (ap vec_items c.move_rests.ensures.same.0 ∙ loads) c.as_slice-2.ensures.value (c.as_slice-3.ensures.value ∙ path)
+    c.asked-asked.ensures
+    (λ rows y ended. c.in-Some.ensures.trails rows c.args.from y ended (omega arith))
+    c.send.ensures.sent c.move_rests.ensures.moved (c.one_more-self.ensures ∙ ap (λ n. min (n + 1) most_counted) c.move_rests.ensures.same.1.0)
