@@ -16,9 +16,6 @@ put_on t table xs ys o e p =
     ∙ drop-drop (length ys) (0 + length xs) t ∙ ap (λ m. drop m t) n in
     ap (λ zs. zs ++ (ys ++ drop (o + length ys) table)) front ∙ ap (λ zs. xs ++ (ys ++ zs)) back ∙ sym (append_assoc xs ys _)
 
-pub put_none : (t : List ℕ) → t ≡ put_at t 0 []
-put_none t = refl
-
 -- what fits is written
 pub fitting : (bytes table then : List ℕ) (o : ℕ) (r : Result ℕ Refusal) → Writes bytes table o r then → o + length bytes ≤ length table → IsOk r
 fitting bytes table then o (Ok end) w l = refl

@@ -1,5 +1,5 @@
 -- An n-fold sum that is made by doubling is the n-fold sum, weighs at most n times as much, and is not made only if that is too heavy.
-use Rattle.std.proofs.Common.{◌≡◌, ℕ, ◌+◌, ◌*◌, ◌/◌, ◌%◌, ◌<◌, ◌≤◌, sym, ap, ap₂, ◌∙◌, subst, arith, mul-le-mul_right, add-mul, MatchOption, Option, Some, None}
+use Rattle.std.proofs.Common.{◌≡◌, ℕ, ◌+◌, ◌*◌, ◌/◌, ◌%◌, ◌<◌, ◌≤◌, sym, ap₂, ◌∙◌, subst, arith, mul-le-mul_right, add-mul, MatchOption, Option, Some, None}
 use Rattle.costs.specs.Group.{times}
 use Rattle.costs.specs.Kind.{Kind, Sums, heaviest}
 use Rattle.plan.proofs.Costs.{times_add}

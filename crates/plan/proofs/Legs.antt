@@ -15,7 +15,7 @@ use Rattle.plan.specs.Steps.{Gives}
 use Rattle.plan.specs.Steps.Gives.{forth, behind}
 use Rattle.plan.specs.Sweeps.{way_of}
 
-way_known : {C : Type 0} (o : Option (Way C)) (e : Ends) (x : C) → Some e ≡ ends_of o → Some x ≡ cost_of o →
+pub way_known : {C : Type 0} (o : Option (Way C)) (e : Ends) (x : C) → Some e ≡ ends_of o → Some x ≡ cost_of o →
     o ≡ Some (record { tail = e.tail; head = e.head; limit = e.limit; cost = x })
 way_known None e x p q = cc
 way_known (Some w) e x p q =

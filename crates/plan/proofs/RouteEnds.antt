@@ -1,5 +1,5 @@
 -- What each way out of a route does to the run of a plan.
-use Rattle.std.proofs.Common.{◌≡◌, ℕ, ◌<◌, ◌≤◌, Bool, true, false, cond, List, length, Some, None, Ok, vec_len, MatchBool, sym, refl, ap, ◌∙◌, subst, arith, le-ltb, lt-ltb}
+use Rattle.std.proofs.Common.{◌≡◌, ℕ, ◌<◌, ◌≤◌, true, false, cond, List, length, Some, None, Ok, Err, Result, MatchResult, is_err, vec_len, sym, ap, ◌∙◌, subst, arith, le-ltb, lt-ltb}
 use Rattle.costs.specs.Kind.{Kind}
 use Rattle.networks.specs.Net.{Net}
 use Rattle.networks.specs.declared.refusal.Refusal.{Refusal}
@@ -10,7 +10,7 @@ use Rattle.plan.specs.declared.calls.Routed.{Routed}
 use Rattle.plan.specs.declared.calls.Routed.TheVariants.{Settled, Blocked, Sent}
 use Rattle.plan.specs.declared.planner.Plan.{Plan}
 use Rattle.plan.specs.Checks.{when, net_fault, route_fault}
-use Rattle.plan.specs.Plans.{plan_state, Runs, Usable, NeverOpened, routing, Stepped}
+use Rattle.plan.specs.Plans.{plan_state, Runs, NeverOpened, routing, Stepped}
 use Rattle.plan.specs.Routings.{Routes}
 use Rattle.plan.specs.Rules.{Rule, route_refused, route_settled, route_blocked, route_sent}
 use Rattle.plan.specs.Sendings.{AsLong}
@@ -73,14 +73,6 @@ module _ {C R N : Type 0} (K : Kind C R) (net : Net C) (h : List Event) (p : Pla
 
 -- what is asked of a plan again tells whether it is open
 module _ {C R N : Type 0} (K : Kind C R) (net : Net C) (p : Plan N) (o : p.opened ≡ true) where
-  pub never_by : (r : Refusal) → Some r ≡ net_fault K net → NeverOpened K net p
-  never_by r e h runs = absurd (some_none r (e ∙ open_fair K net h p runs o))
-
-  pub usable_by : (b : Bool) → None ≡ net_fault K net → {n w : ℕ} → n ≡ net.places → w ≡ length net.ways →
-      (b ≡ true → (vec_len p.table.rests ≡ n) × (vec_len p.table.loads ≡ w)) × (vec_len p.table.rests ≡ n → vec_len p.table.loads ≡ w → b ≡ true) →
-      MatchBool b (Usable K net p) (NeverOpened K net p)
-  usable_by true e n w is = record { opened = o; fair = sym e; made = record { loads = (is.0 refl).1 ∙ w; rests = (is.0 refl).0 ∙ n } }
-  usable_by false e n w is = λ h runs. let m = open_made K net h p runs o in absurd (false_true (is.1 (m.0 ∙ sym n) (m.1 ∙ sym w)))
-    where
-      false_true : false ≡ true → ⊥
-      false_true q = let z : ◌≡◌ {A = ℕ} 0 1 = ap (λ b. cond b 1 0) q in omega arith
+  pub never_by : (r : Result (Unit {0}) Refusal) → is_err r ≡ true → MatchResult r (λ _. net_fault K net ≡ None) (λ e. net_fault K net ≡ Some e) → NeverOpened K net p
+  never_by (Ok u) e m h runs = cc
+  never_by (Err r) e m h runs = absurd (some_none r (sym m ∙ open_fair K net h p runs o))

@@ -1,9 +1,9 @@
 -- Following the noted steps back from a place comes to where the search began, along a cheapest route.
-use Rattle.std.proofs.Common.{◌≡◌, ℕ, ◌+◌, ◌<◌, ◌≤◌, min, true, ◌≢◌, ◌⊎◌, List, [], ◌∷◌, reverse, length, get_or, take, set, Some, None, sym, refl, ap, ◌∙◌, subst, ⊎_elim, arith}
+use Rattle.std.proofs.Common.{◌≡◌, ℕ, ◌<◌, ◌≤◌, min, true, ◌⊎◌, List, [], ◌∷◌, ◌++◌, reverse, length, get_or, Some, None, sym, refl, ap, ◌∙◌, subst, ⊎_elim, arith}
 use lib.ListN.{length-reverse}
 use Rattle.std.specs.List.{slice_get, AllByRecursion}
 use Rattle.std.proofs.ByRecursion.{All-weaker}
-use Rattle.std.proofs.lemmas.List.{reverse-append, take_more_set, length-take-le}
+use Rattle.std.proofs.lemmas.List.{reverse-append}
 use Rattle.std.proofs.lemmas.Option.{slice_get_read}
 use Rattle.costs.specs.Kind.{Kind}
 use Rattle.networks.specs.Net.{Net}
@@ -14,7 +14,7 @@ use Rattle.plan.specs.Entries.{Work, tables, front, entry}
 use Rattle.plan.specs.Rounds.{Came}
 use Rattle.plan.specs.Searches.{Searched}
 use Rattle.plan.specs.Steps.{Gives, Leads, there, then, Route}
-use Rattle.plan.specs.Trails.{on_path, Ended, Trailed}
+use Rattle.plan.specs.Trails.{Ended, Trailed}
 use Rattle.plan.proofs.Flow.{unit_of}
 use Rattle.plan.proofs.Bridge.{given}
 use Rattle.plan.proofs.Walks.{one_step, HasRoom, leads_rooms, rooms_lead, walk_inside, route_short}
@@ -22,11 +22,8 @@ use Rattle.plan.proofs.Found.{Distances}
 use Rattle.plan.proofs.Rising.{Rising, rising_apart}
 
 -- one step more on a path is the first of the route
-path_more : (path : List Step) (i : ℕ) (s : Step) → i < length path → on_path (i + 1) (set path i s) ≡ s ∷ on_path i path
-path_more path i s l = ap reverse (take_more_set path i s l) ∙ reverse-append (take i path) (s ∷ [])
-
-path_length : (path : List Step) (i : ℕ) → i ≤ length path → length (on_path i path) ≡ i
-path_length path i l = length-reverse (take i path) ∙ length-take-le i path l
+path_more : (path : List Step) (s : Step) → reverse (path ++ s ∷ []) ≡ s ∷ reverse path
+path_more path s = reverse-append path (s ∷ [])
 
 -- the note that was read
 pub note_is : (notes : List Note) (at : ℕ) (n m : Note) → at < length notes → n ≡ get_or notes at n → n ≡ m → slice_get notes at ≡ Some m
@@ -60,10 +57,6 @@ module _ {C R : Type 0} (K : Kind C R) (net : Net C) (loads : List ℕ) where
           let r = searched.reached v y i in
           (r.steps, r.met, subst (λ p. Leads K net loads 1 p r.steps r.met v y) r.begins r.leads);
     }
-
-  leads_some : {x u v : ℕ} {ss : List Step} {vs : List ℕ} {c : K.group.Carrier} → Leads K net loads x u ss vs v c → u ≢ v → 1 ≤ length ss
-  leads_some (there u) ne = absurd (ne refl)
-  leads_some (then u v w s ss vs c d r g l rest) ne = omega arith
 
   module _ (notes : List Note) (rows : List R) (from to amount : ℕ) (y : K.group.Carrier) (e : Ended K net loads from to (tables rows notes) y) where
     abbrev t : Work R
@@ -159,43 +152,37 @@ module _ {C R : Type 0} (K : Kind C R) (net : Net C) (loads : List ℕ) where
               most = λ z l h. let a = far.most z l h.1 in let b = h.0 u v r c g in omega arith;
             })
 
-    module _ (path : List Step) (i : ℕ) (at left : ℕ) (far : Far (on_path i path) at left) where
+    module _ (path : List Step) (at left : ℕ) (far : Far (reverse path) at left) where
       -- one turn more
-      pub far_turn : i < length path → (s : Step) → slice_get notes at ≡ Some (Via s) → (u r m v : ℕ) (c : K.group.Carrier) → Gives K net loads s u v c r → m ≡ min left r →
-          Far (on_path (i + 1) (set path i s)) u m
-      far_turn l s note u r m v c g is =
-          subst (λ n. Far (on_path (i + 1) (set path i s)) u n) (sym is)
-          (subst (λ ss. Far ss u (min left r)) (sym (path_more path i s l)) (far_more (on_path i path) at left far s note u r v c g))
+      pub far_turn : (path' : List Step) (s : Step) → path' ≡ path ++ s ∷ [] → slice_get notes at ≡ Some (Via s) → (u r m v : ℕ) (c : K.group.Carrier) →
+          Gives K net loads s u v c r → m ≡ min left r → Far (reverse path') u m
+      far_turn path' s longer note u r v' v c g is =
+          subst (λ n. Far (reverse path') u n) (sym is)
+          (subst (λ ss. Far ss u (min left r)) (sym (ap reverse longer ∙ path_more path s)) (far_more (reverse path) at left far s note u r v c g))
 
-      pub far_ends : i < length path → slice_get notes at ≡ Some Start → Trailed K net loads from to amount path y (record { len = i; amount = left })
-      far_ends l start =
+      pub far_ends : slice_get notes at ≡ Some Start → Trailed K net loads from to amount path y left
+      far_ends start =
           let G = K.group in
-          let b = far_begins (on_path i path) at left far start in
+          let b = far_begins (reverse path) at left far start in
           let is = b.0 in
           let nothing = b.1 in
           let cost : far.cost ≡ y = sym (G.unit far.cost) ∙ ap (λ z. G.plus z far.cost) (sym nothing) ∙ far.sum in
-          let leads : Leads K net loads 1 from (on_path i path) far.met to y =
-          subst (λ u. Leads K net loads 1 u (on_path i path) far.met to y) is (subst (Leads K net loads 1 at (on_path i path) far.met to) cost far.leads) in
+          let leads : Leads K net loads 1 from (reverse path) far.met to y =
+          subst (λ u. Leads K net loads 1 u (reverse path) far.met to y) is (subst (Leads K net loads 1 at (reverse path) far.met to) cost far.leads) in
           let up : Rising rank from far.met = subst (λ u. Rising rank u far.met) is far.rises in
-          let apart = rising_apart rank from far.met up in
-          let one : Route K net loads 1 from (on_path i path) to y = record { met = far.met; leads = leads; apart = apart } in
-          let long = path_length path i (omega arith) in
           record {
-            short = omega (arith, long, route_short K net loads e.inside begins_inside one);
-            some = λ ne. omega (arith, long, leads_some leads ne);
-            one = one;
-            route = record { met = far.met; leads = rooms_lead K net loads far.rooms leads; apart = apart };
+            route = record { met = far.met; leads = rooms_lead K net loads far.rooms leads; apart = rising_apart rank from far.met up };
             asked = far.asked;
             positive = far.positive;
             most = λ z b r. far.most z b (leads_rooms K net loads r.leads);
           }
 
-      -- the steps are fewer than the places, so a path as long as that is never full
-      pub far_short : net.places ≤ length path → length path ≤ i → i ≤ length path → ⊥
-      far_short l full m =
-          let one : Route K net loads 1 at (on_path i path) to far.cost = record { met = far.met; leads = far.leads; apart = rising_apart rank at far.met far.rises } in
+      -- the steps are fewer than the places
+      pub far_short : net.places ≤ length path → ⊥
+      far_short full =
+          let one : Route K net loads 1 at (reverse path) to far.cost = record { met = far.met; leads = far.leads; apart = rising_apart rank at far.met far.rises } in
           let short = route_short K net loads e.inside (entry_inside at far.value far.is) one in
-          omega (arith, path_length path i m)
+          omega (arith, length-reverse path)
 
   -- so far, after any search that left those notes
   abbrev pub SoFarBy : List Note → ℕ → ℕ → List Step → ℕ → ℕ → Type 0

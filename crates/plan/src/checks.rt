@@ -1,33 +1,37 @@
-ghost use Rattle.std.specs.Prelude.{◌≡◌};
+ghost use Rattle.std.specs.Prelude.{◌≡◌, MatchResult};
 ghost use Rattle.plan.specs.Checks.{fault_of_way, fault_of_ways, net_fault};
 
 use costs::Cost;
 use networks::{Ends, Network, Refusal};
 
-// What is wrong with way `k` of a network with so many places.
-fn way_fault<C: Cost>(places: usize, k: usize, ends: Ends, cost: C) -> Option<Refusal>
-    ensures { result ≡ fault_of_way C.Cost.kind places k (record { tail = ends.tail; head = ends.head; limit = ends.limit; cost = cost }) }
+// Looks for a fault of way `k` of a network with so many places.
+fn check_way<C: Cost>(places: usize, k: usize, ends: Ends, cost: C) -> Result<(), Refusal>
+    ensures { MatchResult result
+        (λ _. fault_of_way C.Cost.kind places k (record { tail = ends.tail; head = ends.head; limit = ends.limit; cost = cost }) ≡ None)
+        (λ fault. fault_of_way C.Cost.kind places k (record { tail = ends.tail; head = ends.head; limit = ends.limit; cost = cost }) ≡ Some fault) }
 {
     if ends.tail >= places || ends.head >= places {
-        return Some(Refusal::NoEnd(k));
+        return Err(Refusal::NoEnd(k));
     }
     if ends.tail == ends.head {
-        return Some(Refusal::SameEnds(k));
+        return Err(Refusal::SameEnds(k));
     }
     if ends.limit > 1_000_000 {
-        return Some(Refusal::LargeLimit(k));
+        return Err(Refusal::LargeLimit(k));
     }
     if cost.weight() > 1_000_000 {
-        return Some(Refusal::HeavyCost(k));
+        return Err(Refusal::HeavyCost(k));
     }
-    None
+    Ok(())
 }
 
-// The first fault of the ways, the lowest way first.
-fn ways_fault<N: Network>(net: &N) -> Option<Refusal>
-    ensures { result ≡ fault_of_ways N.Cost.Cost.kind (N.Network.means net.now).places 0 (N.Network.means net.now).ways }
+// Looks for the first fault of the ways, the lowest way first.
+fn check_ways<N: Network>(net: &N) -> Result<(), Refusal>
+    ensures { MatchResult result (λ _. fault_of_ways N.Cost.Cost.kind (N.Network.means net.now).places 0 (N.Network.means net.now).ways ≡ None)
+        (λ fault. fault_of_ways N.Cost.Cost.kind (N.Network.means net.now).places 0 (N.Network.means net.now).ways ≡ Some fault) }
 {
     let places = net.places();
+    // A network answers about a way by its number, and is no slice to go over.
     for k in 0..net.ways() {
         let Some(ends) = net.way(k) else {
             unreachable()
@@ -35,23 +39,22 @@ fn ways_fault<N: Network>(net: &N) -> Option<Refusal>
         let Some(cost) = net.cost(k) else {
             unreachable()
         };
-        if let Some(refusal) = way_fault(places, k, ends, cost) {
-            return Some(refusal);
-        }
+        check_way(places, k, ends, cost)?;
     }
-    None
+    Ok(())
 }
 
-// The first fault of a network, if it has one.
-pub(crate) fn fault_of_net<N: Network>(net: &N) -> Option<Refusal>
-    ensures { result ≡ net_fault N.Cost.Cost.kind (N.Network.means net.now) }
+// Looks for the first fault of a network.
+pub(crate) fn check_net<N: Network>(net: &N) -> Result<(), Refusal>
+    ensures { MatchResult result (λ _. net_fault N.Cost.Cost.kind (N.Network.means net.now) ≡ None)
+        (λ fault. net_fault N.Cost.Cost.kind (N.Network.means net.now) ≡ Some fault) }
 {
     let places = net.places();
     if places == 0 || places > 1024 {
-        return Some(Refusal::BadPlaces);
+        return Err(Refusal::BadPlaces);
     }
     if net.ways() > 3000 {
-        return Some(Refusal::ManyWays);
+        return Err(Refusal::ManyWays);
     }
-    ways_fault(net)
+    check_ways(net)
 }

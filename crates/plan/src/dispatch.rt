@@ -74,17 +74,12 @@ impl Table {
             net,
             loads: self.loads.as_slice(),
         };
-        let path = self.path.as_mut_slice();
-        let Some(trail) = loaded.trace(self.notes.as_slice(), path, to, asked) else {
+        let Some(amount) = loaded.trace(self.notes.as_slice(), &mut self.path, to, asked) else {
             return 0;
         };
-        send(
-            self.loads.as_mut_slice(),
-            &self.path.as_slice()[..trail.len],
-            trail.amount,
-        );
-        self.move_rests(to, from, trail.amount);
+        send(self.loads.as_mut_slice(), self.path.as_slice(), amount);
+        self.move_rests(to, from, amount);
         self.count = one_more(self.count);
-        trail.amount
+        amount
     }
 }

@@ -2,7 +2,7 @@ ghost use Rattle.std.specs.Prelude.{◌≡◌, [], length, drop, IfOk};
 ghost use Rattle.plan.specs.declared.calls.Call.TheVariants.{Open};
 ghost use Rattle.plan.specs.Plans.{Runs, Called, CalledLawfully, IfRefused, IfRefusedEarly, opening, plan_state};
 
-use super::checks::fault_of_net;
+use super::checks::check_net;
 use super::planner::Plan;
 use super::table::Table;
 use costs::Cost;
@@ -34,9 +34,7 @@ impl<N: Network + Drop> Plan<N> {
         if self.opened {
             return Err(Refusal::AlreadyOpen);
         }
-        if let Some(refusal) = fault_of_net(&self.net) {
-            return Err(refusal);
-        }
+        check_net(&self.net)?;
         let places = self.net.places();
         if work.len() < places {
             return Err(Refusal::ShortTable);

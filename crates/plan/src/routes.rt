@@ -3,13 +3,13 @@ ghost use Rattle.plan.specs.declared.calls.Call.TheVariants.{Route};
 ghost use Rattle.plan.specs.Plans.{Called, CalledLawfully, Usable, NeverOpened, IfRefused, routing};
 
 use super::calls::Routed;
-use super::checks::fault_of_net;
+use super::checks::check_net;
 use super::planner::Plan;
 use costs::Cost;
 use networks::{Network, Refusal};
 
 impl<N: Network> Plan<N> {
-    // Whether the plan is open. The network passed the checks then, and is asked again, because its type does not say so.
+    // Whether the plan is open. The network passed the checks then, and is asked again: a type that said so would want `N: Network` of all who name a plan.
     pub(crate) fn usable(&self) -> bool
         ensures { MatchBool result (Usable N.Cost.Cost.kind (N.Network.means self.now.net) self.now)
             (NeverOpened N.Cost.Cost.kind (N.Network.means self.now.net) self.now) }
@@ -17,7 +17,7 @@ impl<N: Network> Plan<N> {
         if !self.opened {
             return false;
         }
-        if let Some(_) = fault_of_net(&self.net) {
+        if check_net(&self.net).is_err() {
             return false;
         }
         self.table.is_for(self.net.places(), self.net.ways())

@@ -1,4 +1,4 @@
-ghost use Rattle.std.specs.Prelude.{◌≡◌, vec_len};
+ghost use Rattle.std.specs.Prelude.{◌≡◌, ◌≤◌, vec_len, vec_capacity};
 
 use super::note::Note;
 use super::step::Step;
@@ -11,5 +11,6 @@ pub(crate) struct Table {
     pub(crate) count: u32,
     pub(crate) notes: Vec<Note>,
     pub(crate) path: Vec<Step>,
-    ghost level: { (vec_len notes ≡ vec_len rests) × (vec_len path ≡ vec_len rests) },
+    ghost level: { vec_len notes ≡ vec_len rests },
+    ghost room: { vec_len rests ≤ vec_capacity path },
 }

@@ -1,7 +1,6 @@
 ghost use Rattle.std.specs.Prelude.{◌≡◌, replicate, pos, IfOk};
 
 use super::note::Note;
-use super::step::Step;
 use super::table::Table;
 use std::alloc::{AllocError, Global};
 
@@ -12,7 +11,7 @@ impl Table {
         let loads = vec![in heap; 0u32; ways]?;
         let rests = vec![in heap; 0i64; places]?;
         let notes = vec![in heap; Note::Unseen; places]?;
-        let path = vec![in heap; Step::Ahead(0); places]?;
+        let path = Vec::with_capacity(heap, places)?;
         Ok(Table {
             loads,
             rests,

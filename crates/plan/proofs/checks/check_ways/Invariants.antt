@@ -1,6 +1,7 @@
+-- The ways so far have no fault.
 use Rattle.std.proofs.Common.{◌≡◌, drop}
 use Rattle.plan.specs.Checks.{fault_of_ways}
-use Rattle.plan.proofs.checks.ways_fault.Given as goal
+use Rattle.plan.proofs.checks.check_ways.Given as goal
 
 abbrev pub invariant-loop-k : goal.invariant-loop-k
 invariant-loop-k g l =
