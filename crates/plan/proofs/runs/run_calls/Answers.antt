@@ -8,19 +8,6 @@ use Rattle.plan.proofs.Lawful.{lawful}
 use Rattle.plan.proofs.Listed.{one_more}
 use Rattle.plan.proofs.runs.run_calls.Goals as goal
 
-pub loop-call-init : goal.loop-call-init
-loop-call-init g c =
-    let new = c.in_ok-plan.ensures in record {
-      net = refl;
-      each = c.in_ok-answers.ensures.len;
-      room = c.in_ok-answers.ensures.capacity;
-      past = refl;
-      runs = subst (λ n. Runs g.N.Cost.Cost.kind (g.N.Network.means n) _ c.in_ok-plan.plan) (sym new.0) new.1;
-    }
-
-pub push_reserved-requires : goal.push_reserved-requires
-push_reserved-requires g c = let inv = c.loop-call.invariant in omega (arith, inv.each, inv.room, c.loop-call-test.true)
-
 pub loop-call-preserved : goal.loop-call-preserved
 loop-call-preserved g c =
     let inv = c.loop-call.invariant in
@@ -41,8 +28,8 @@ loop-call-preserved g c =
           inv.net c.loop-call.auto.work run);
     }
 
-pub returns : goal.returns
-returns g c =
+pub returns-clause-ran : goal.returns-clause-ran
+returns-clause-ran g c =
     let inv = c.loop-call.invariant in
     let new = c.in_ok-plan.ensures in
     let kind = g.N.Cost.Cost.kind in
@@ -51,12 +38,8 @@ returns g c =
     let runs = subst (λ n. Runs kind (g.N.Network.means c.args.net) (history n) c.loop-call.plan) all
     (subst (λ n. Runs kind (g.N.Network.means n) (history c.loop-call.call-index) c.loop-call.plan) new.0 inv.runs) in
     record {
-      past = subst (λ n. drop (g.N.Network.means n).places c.loop-call.work ≡ drop (g.N.Network.means n).places c.args.work.now) new.0 inv.past;
-      refused = tt;
-      ran = record {
-        holds = inv.net ∙ new.0;
-        each = inv.each ∙ all;
-        runs = runs;
-        lawful = lawful kind (g.N.Network.means c.args.net) runs.trace;
-      };
+      holds = inv.net ∙ new.0;
+      each = inv.each ∙ all;
+      runs = runs;
+      lawful = lawful kind (g.N.Network.means c.args.net) runs.trace;
     }

@@ -8,9 +8,6 @@ returns-then-not-self-clause-law g c work h r =
 pub returns-then-not-self-clause-run : goal.returns-then-not-self-clause-run
 returns-then-not-self-clause-run g c work h r = (returns-then-not-self-clause-law g c work h r).runs
 
-pub returns-clause-refused : goal.returns-clause-refused
-returns-clause-refused g c = book_unaltered c.args.from c.args.to c.args.amount c.args.self.now c.book.result _ c.book.ensures
-
 pub returns-clause-law : goal.returns-clause-law
 returns-clause-law g c work h r =
     book_done g.N.Cost.Cost.kind (g.N.Network.means c.args.self.now.net) work c.args.from c.args.to c.args.amount h c.args.self.now r c.if-not-self.false

@@ -4,18 +4,12 @@ use Rattle.networks.specs.declared.refusal.Refusal.TheVariants.{LosingRing}
 use Rattle.plan.proofs.Opened.{none_early, both_closed, open_already, open_faulty, open_short, open_loses, open_done}
 use Rattle.plan.proofs.planner.Plan.open.Goals as goal
 
-pub returns-then-self-clause-untouched : goal.returns-then-self-clause-untouched
-returns-then-self-clause-untouched g c = λ e i n. (refl, refl)
-
 pub returns-then-self-clause-law : goal.returns-then-self-clause-law
 returns-then-self-clause-law g c h r =
     open_already g.N.Cost.Cost.kind (g.N.Network.means c.args.self.now.net) (length c.args.work.now) h c.args.self.now r c.if-self.true
 
 pub returns-then-self-clause-run : goal.returns-then-self-clause-run
 returns-then-self-clause-run g c h r = (returns-then-self-clause-law g c h r).runs
-
-pub returns-in_err-check_net-clause-untouched : goal.returns-in_err-check_net-clause-untouched
-returns-in_err-check_net-clause-untouched g c = λ e i n. (refl, refl)
 
 pub returns-in_err-check_net-clause-law : goal.returns-in_err-check_net-clause-law
 returns-in_err-check_net-clause-law g c h r =
@@ -26,12 +20,6 @@ returns-in_err-check_net-clause-law g c h r =
 pub returns-in_err-check_net-clause-run : goal.returns-in_err-check_net-clause-run
 returns-in_err-check_net-clause-run g c h r = (returns-in_err-check_net-clause-law g c h r).runs
 
-pub returns-then-work-places-clause-untouched : goal.returns-then-work-places-clause-untouched
-returns-then-work-places-clause-untouched g c =
-    let n = c.places-places.ensures in
-    let l = c.if-work-places.true in
-    λ e i n. (refl, refl)
-
 pub returns-then-work-places-clause-law : goal.returns-then-work-places-clause-law
 returns-then-work-places-clause-law g c h r =
     let n = c.places-places.ensures in
@@ -40,16 +28,6 @@ returns-then-work-places-clause-law g c h r =
 
 pub returns-then-work-places-clause-run : goal.returns-then-work-places-clause-run
 returns-then-work-places-clause-run g c h r = (returns-then-work-places-clause-law g c h r).runs
-
-pub returns-then-has_losing_ring-clause-past : goal.returns-then-has_losing_ring-clause-past
-returns-then-has_losing_ring-clause-past g c = c.has_losing_ring.ensures.past
-
-pub returns-then-has_losing_ring-clause-refused : goal.returns-then-has_losing_ring-clause-refused
-returns-then-has_losing_ring-clause-refused g c =
-    both_closed c.args.self.now (record { net = c.args.self.now.net; table = c.has_losing_ring.new.self; opened = c.args.self.now.opened }) c.if-self.false c.if-self.false
-
-pub returns-then-has_losing_ring-clause-untouched : goal.returns-then-has_losing_ring-clause-untouched
-returns-then-has_losing_ring-clause-untouched g c = none_early (Err LosingRing) refl
 
 pub returns-then-has_losing_ring-clause-law : goal.returns-then-has_losing_ring-clause-law
 returns-then-has_losing_ring-clause-law g c h r =
@@ -62,15 +40,6 @@ returns-then-has_losing_ring-clause-law g c h r =
 
 pub returns-then-has_losing_ring-clause-run : goal.returns-then-has_losing_ring-clause-run
 returns-then-has_losing_ring-clause-run g c h r = (returns-then-has_losing_ring-clause-law g c h r).runs
-
-pub returns-clause-past : goal.returns-clause-past
-returns-clause-past g c = c.has_losing_ring.ensures.past
-
-pub returns-clause-refused : goal.returns-clause-refused
-returns-clause-refused g c = tt
-
-pub returns-clause-untouched : goal.returns-clause-untouched
-returns-clause-untouched g c = none_early (Ok tt) refl
 
 pub returns-clause-law : goal.returns-clause-law
 returns-clause-law g c h r =

@@ -2,18 +2,12 @@ use Rattle.std.proofs.Common.{refl, arith}
 use Rattle.plan.proofs.RouteEnds.{route_closed, route_short, route_done}
 use Rattle.plan.proofs.planner.Plan.route.Goals as goal
 
-pub returns-then-not-usable-clause-refused : goal.returns-then-not-usable-clause-refused
-returns-then-not-usable-clause-refused g c = (refl, refl)
-
 pub returns-then-not-usable-clause-law : goal.returns-then-not-usable-clause-law
 returns-then-not-usable-clause-law g c h r =
     route_closed g.N.Cost.Cost.kind (g.N.Network.means c.args.self.now.net) h c.args.self.now r _ (c.if-not-usable.ensures h r)
 
 pub returns-then-not-usable-clause-run : goal.returns-then-not-usable-clause-run
 returns-then-not-usable-clause-run g c h r = (returns-then-not-usable-clause-law g c h r).runs
-
-pub returns-then-work-places-clause-refused : goal.returns-then-work-places-clause-refused
-returns-then-work-places-clause-refused g c = (refl, refl)
 
 pub returns-then-work-places-clause-law : goal.returns-then-work-places-clause-law
 returns-then-work-places-clause-law g c h r =
@@ -23,12 +17,6 @@ returns-then-work-places-clause-law g c h r =
 
 pub returns-then-work-places-clause-run : goal.returns-then-work-places-clause-run
 returns-then-work-places-clause-run g c h r = (returns-then-work-places-clause-law g c h r).runs
-
-pub returns-clause-past : goal.returns-clause-past
-returns-clause-past g c = c.route.ensures.past
-
-pub returns-clause-refused : goal.returns-clause-refused
-returns-clause-refused g c = tt
 
 pub returns-clause-law : goal.returns-clause-law
 returns-clause-law g c h r =

@@ -2,9 +2,6 @@ use Rattle.std.proofs.Common.{refl, arith}
 use Rattle.plan.proofs.Settled.{settle_closed, settle_bad, settle_short, settle_done}
 use Rattle.plan.proofs.planner.Plan.settle.Goals as goal
 
-pub returns-then-not-usable-clause-refused : goal.returns-then-not-usable-clause-refused
-returns-then-not-usable-clause-refused g c = (refl, refl)
-
 pub returns-then-not-usable-clause-law : goal.returns-then-not-usable-clause-law
 returns-then-not-usable-clause-law g c h r =
     settle_closed g.N.Cost.Cost.kind (g.N.Network.means c.args.self.now.net) h c.args.self.now r _ _ (c.if-not-usable.ensures h r)
@@ -12,18 +9,12 @@ returns-then-not-usable-clause-law g c h r =
 pub returns-then-not-usable-clause-run : goal.returns-then-not-usable-clause-run
 returns-then-not-usable-clause-run g c h r = (returns-then-not-usable-clause-law g c h r).runs
 
-pub returns-then-budget-eq0-clause-refused : goal.returns-then-budget-eq0-clause-refused
-returns-then-budget-eq0-clause-refused g c = (refl, refl)
-
 pub returns-then-budget-eq0-clause-law : goal.returns-then-budget-eq0-clause-law
 returns-then-budget-eq0-clause-law g c h r =
     settle_bad g.N.Cost.Cost.kind (g.N.Network.means c.args.self.now.net) h c.args.self.now r _ _ c.if-not-usable.ensures.opened c.then-budget-eq0.either
 
 pub returns-then-budget-eq0-clause-run : goal.returns-then-budget-eq0-clause-run
 returns-then-budget-eq0-clause-run g c h r = (returns-then-budget-eq0-clause-law g c h r).runs
-
-pub returns-then-work-places-clause-refused : goal.returns-then-work-places-clause-refused
-returns-then-work-places-clause-refused g c = (refl, refl)
 
 pub returns-then-work-places-clause-law : goal.returns-then-work-places-clause-law
 returns-then-work-places-clause-law g c h r =
@@ -33,12 +24,6 @@ returns-then-work-places-clause-law g c h r =
 
 pub returns-then-work-places-clause-run : goal.returns-then-work-places-clause-run
 returns-then-work-places-clause-run g c h r = (returns-then-work-places-clause-law g c h r).runs
-
-pub returns-clause-past : goal.returns-clause-past
-returns-clause-past g c = c.settle.ensures.past
-
-pub returns-clause-refused : goal.returns-clause-refused
-returns-clause-refused g c = tt
 
 pub returns-clause-law : goal.returns-clause-law
 returns-clause-law g c h r =
