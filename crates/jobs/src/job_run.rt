@@ -113,8 +113,5 @@ fn run(heap: Global, bytes: &[u8]) -> Result<String, Stop>
 pub fn run_job(heap: Global, bytes: &[u8]) -> Result<String, AllocError>
     ensures { IfOk result (λ t. JobSays bytes.now (string_bytes t)) }
 {
-    match run(heap, bytes) {
-        Ok(text) => Ok(text),
-        Err(stop) => stop.line(heap),
-    }
+    run(heap, bytes).or_else(move |stop| stop.line(heap))
 }

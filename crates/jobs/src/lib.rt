@@ -33,6 +33,6 @@ pub use kind::Kind;
 pub use lines::Line;
 pub use listing::list_file;
 pub use net_listing::list_network;
-pub use reader::{LONGEST, Reader};
+pub use reader::{LONGEST_FILE, Reader};
 pub use record::Record;
 pub use section::Section;

@@ -114,8 +114,5 @@ fn lines(heap: Global, form: Form, bytes: &[u8]) -> Result<String, Stop>
 pub fn list_file(heap: Global, form: Form, bytes: &[u8]) -> Result<String, AllocError>
     ensures { IfOk result (λ t. Lists form bytes.now (string_bytes t)) }
 {
-    match lines(heap, form, bytes) {
-        Ok(text) => Ok(text),
-        Err(stop) => stop.line(heap),
-    }
+    lines(heap, form, bytes).or_else(move |stop| stop.line(heap))
 }

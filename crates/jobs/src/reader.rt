@@ -1,7 +1,7 @@
 ghost use Rattle.std.specs.Prelude.{◌≤◌, length};
 
 // How many bytes a file may have.
-pub const LONGEST: usize = 60_000;
+pub const LONGEST_FILE: usize = 60_000;
 
 // What a reader looks for next: `Ways` has how many ways are still to come, at least one.
 #[derive(Clone, Copy, PartialEq, Eq, Debug)]

@@ -8,7 +8,7 @@ use super::entry::Entry;
 use super::fault::Fault;
 use super::form::Form;
 use super::kind::Kind;
-use super::reader::{LONGEST, Reader, Stage};
+use super::reader::{LONGEST_FILE, Reader, Stage};
 use super::record::Record;
 use super::section::Section;
 use networks::Refusal;
@@ -96,10 +96,10 @@ impl<'a> Reader<'a> {
     pub fn next(&mut self) -> Result<Option<Record<'a>>, Fault>
         ensures { (f : Form) (es : List Entry) → Read f es self.old → Next f es self.old result self.new }
     {
-        if self.bytes.len() > LONGEST {
+        if self.bytes.len() > LONGEST_FILE {
             return Err(Fault {
                 refusal: Refusal::LongFile,
-                offset: LONGEST,
+                offset: LONGEST_FILE,
             });
         }
         let offset = self.offset;
