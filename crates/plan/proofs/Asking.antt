@@ -1,8 +1,8 @@
 -- What a question leaves of a plan, and what the prices say.
-use Rattle.std.proofs.Common.{◌≡◌, ◌<◌, ◌≤◌, Bool, true, false, cond, List, length, Ok, Err, vec_items, vec_len, MatchBool, sym, refl, ap, ◌∙◌, subst, le-ltb, lt-ltb}
+use Rattle.std.proofs.Common.{◌≡◌, ◌≤◌, Bool, true, false, cond, List, length, Ok, vec_items, vec_len, MatchBool, sym, ap, ◌∙◌, subst, le-ltb}
 use Rattle.costs.specs.Kind.{Kind}
 use Rattle.networks.specs.Net.{Net}
-use Rattle.networks.specs.declared.refusal.Refusal.TheVariants.{NotOpen, ShortTable}
+use Rattle.networks.specs.declared.refusal.Refusal.TheVariants.{ShortTable}
 use Rattle.plan.specs.declared.planner.Plan.{Plan}
 use Rattle.plan.specs.declared.table.Table.{Table}
 use Rattle.plan.specs.Checks.{when}
@@ -28,15 +28,9 @@ module _ {N : Type 0} (p : Plan N) (t : Table) (same : Same p.table t) where
   }
 
 module _ {C R N : Type 0} (K : Kind C R) (net : Net C) (h : List Event) (p : Plan N) (runs : Runs K net h p) (table : List R) where
-  pub prices_closed : p.opened ≡ false → Prices K net (plan_state p) table (Err NotOpen) table
-  prices_closed o = (ap (λ b. prices_fault net (cond b (state_of p.table) closed) (length table)) o, refl)
-
   module _ (o : p.opened ≡ true) where
     open_prices : prices_fault net (plan_state p) (length table) ≡ prices_fault net (state_of p.table) (length table)
     open_prices = ap (λ b. prices_fault net (cond b (state_of p.table) closed) (length table)) o
-
-    pub prices_short : length table < net.places → Prices K net (plan_state p) table (Err ShortTable) table
-    prices_short l = (open_prices ∙ ap (λ b. when b ShortTable) (lt-ltb (length table) net.places l), refl)
 
     pub prices_done : net.places ≤ length table → (still : Bool) (table' : List R) →
         MatchBool still ((Losing K net (vec_items p.table.loads) → ⊥) × Priced K net (vec_items p.table.loads) table table') (Losing K net (vec_items p.table.loads)) →

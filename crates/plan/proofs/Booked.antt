@@ -7,10 +7,9 @@ use Rattle.networks.specs.declared.refusal.Refusal.TheVariants.{NoPlace, SamePla
 use Rattle.plan.specs.declared.calls.Answer.TheVariants.{Booked, Refused}
 use Rattle.plan.specs.declared.calls.Call.TheVariants.{Book}
 use Rattle.plan.specs.declared.planner.Plan.{Plan}
-use Rattle.plan.specs.declared.table.Table.{Table}
 use Rattle.plan.specs.Checks.{or_else, when, outside, beyond, book_fault}
 use Rattle.plan.specs.Law.{Trace}
-use Rattle.plan.specs.Plans.{IfRefused, plan_state, Sized, Runs, booking, Stepped}
+use Rattle.plan.specs.Plans.{plan_state, Sized, Runs, booking, Stepped}
 use Rattle.plan.specs.Rules.{Rule, move, book_refused, book_accepted}
 use Rattle.plan.specs.State.{closed, rest, Event}
 use Rattle.plan.specs.Tables.{state_of, booking_fault, Books}
@@ -59,9 +58,3 @@ module _ {C R N : Type 0} (K : Kind C R) (net : Net C) (work from to amount : �
         (subst (λ s. Rule K net work s (Book from to amount) (Refused e) (plan_state q)) (sym was_open)
         (subst (λ s. Rule K net work (state_of p.table) (Book from to amount) (Refused e) s) (sym same) (book_refused (state_of p.table) from to amount e (fault_is ∙ b.0))))
         (subst (Sized net) (sym b.1) runs.sized)
-
--- a refused booking leaves the plan as it was
-pub book_unaltered : {N : Type 0} (from to amount : ℕ) (p : Plan N) (r : Result (Unit {0}) Refusal) (t : Table) → Books p.table from to amount r t →
-    IfRefused r (record { net = p.net; table = t; opened = p.opened } ≡ p)
-book_unaltered from to amount p (Ok u) t b = tt
-book_unaltered from to amount p (Err e) t b = ap (λ x. record { net = p.net; table = x; opened = p.opened }) b.1

@@ -41,7 +41,6 @@ pub mod Routings
 pub mod Running
 pub mod Starting
 pub mod Marked
-pub mod Reaching
 pub mod Searching
 pub mod Picking
 pub mod Deciding

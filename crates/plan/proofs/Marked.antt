@@ -1,10 +1,10 @@
 -- Marks spread along steps and walks, and tell the reach of a place in the end.
-use Rattle.std.proofs.Common.{◌≡◌, ℕ, ◌+◌, ◌<◌, ◌≤◌, Bool, true, false, ◌||◌, ◌≢◌, ◌⊎◌, List, [], ◌∷◌, ◌++◌, length, get_or, take, drop, set, replicate, Some, sym, refl, ap, ◌∙◌, subst, inl, inr, ⊎_elim, arith}
+use Rattle.std.proofs.Common.{◌≡◌, ℕ, ◌+◌, ◌<◌, ◌≤◌, Bool, false, ◌||◌, ◌≢◌, ◌⊎◌, List, [], ◌∷◌, ◌++◌, length, take, drop, set, replicate, Some, sym, refl, ap, ◌∙◌, subst, inl, inr, ⊎_elim, arith}
 use Rattle.std.specs.List.{slice_get, AllByRecursion}
 use Rattle.std.proofs.lemmas.List.{get_or_append_left, length-append, length-replicate, length-take-le}
-use Rattle.std.proofs.lemmas.Option.{slice_get-get_or, slice_get_within, get_or_from_slice_get}
+use Rattle.std.proofs.lemmas.Option.{slice_get-get_or, slice_get_within}
 use Rattle.std.proofs.lemmas.Slice.{drop-append-drop}
-use Rattle.std.proofs.lemmas.Bool.{cases_eq, or_parts, false≢true}
+use Rattle.std.proofs.lemmas.Bool.{cases_eq, or_parts}
 use Rattle.costs.specs.Kind.{Kind}
 use Rattle.networks.specs.Net.{Net}
 use Rattle.plan.specs.declared.step.Step.{Step}
@@ -19,30 +19,6 @@ use Rattle.plan.proofs.Noting.{nth_set_same, nth_set_other, nth_replicate}
 use Rattle.plan.proofs.Trying.{along, gives_way}
 use Rattle.plan.proofs.Walking.{leads_join, leads_last}
 use Rattle.plan.proofs.Walks.{one_step, route_short}
-
-is_mark : (m : List ℕ) (v : ℕ) → v < length m → get_or m v 0 ≡ 1 → On m v
-is_mark m v l e = slice_get-get_or m v 0 l ∙ ap (λ x. Some x) e
-
-mark_is : (m : List ℕ) (v : ℕ) → On m v → get_or m v 0 ≡ 1
-mark_is m v on = get_or_from_slice_get m v 1 0 on
-
--- `from` has no mark, or `to` has one
-pub unextended : (u v : ℕ) (m : List ℕ) → u < length m → v < length m → (get_or m u 0 ≢ 1) ⊎ (get_or m v 0 ≡ 1) → Extended u v m m false
-unextended u v m l k e = record {
-  only = λ w. inl refl;
-  met = λ on. ⊎_elim (λ ne. absurd (ne (mark_is m u on))) (is_mark m v k) e;
-  same = λ _. refl;
-}
-
-pub extended : (u v : ℕ) (m : List ℕ) → u < length m → v < length m → get_or m u 0 ≡ 1 → Extended u v m (set m v 1) true
-extended u v m l k e = record {
-  only = λ w. ⊎_elim
-      (λ (q : w ≡ v). inr (q, is_mark m u l e, ap (slice_get (set m v 1)) q ∙ nth_set_same m v 1 k))
-      (λ (ne : w ≡ v → ⊥). inl (nth_set_other m v w 1 ne))
-      (cases_eq w v);
-  met = λ _. nth_set_same m v 1 k;
-  same = λ e. absurd (false≢true (sym e));
-}
 
 module _ {C R : Type 0} (K : Kind C R) (net : Net C) (loads : List ℕ) where
   -- a route that meets u, from there; or it does not meet u

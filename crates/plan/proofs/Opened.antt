@@ -9,7 +9,7 @@ use Rattle.plan.specs.declared.calls.Call.TheVariants.{Open}
 use Rattle.plan.specs.declared.planner.Plan.{Plan}
 use Rattle.plan.specs.declared.table.Table.{Table}
 use Rattle.plan.specs.Checks.{or_else, when, net_fault, open_fault}
-use Rattle.plan.specs.Plans.{plan_state, Sized, Runs, Stepped, IfRefusedEarly}
+use Rattle.plan.specs.Plans.{plan_state, Sized, Runs, Stepped}
 use Rattle.plan.specs.Rules.{Rule, open_refused, open_losing, open_accepted}
 use Rattle.plan.specs.State.{closed, Event}
 use Rattle.plan.specs.Steps.{Losing}
@@ -21,14 +21,6 @@ use Rattle.plan.proofs.Lawful.{stepped}
 abbrev pub told : {A : Type 0} → Result A Refusal → Refusal
 told (Ok a) = LosingRing
 told (Err r) = r
-
--- what is promised of all other refusals is promised of nothing
-pub none_early : {A P : Type 0} (r : Result A Refusal) → told r ≡ LosingRing → IfRefusedEarly r P
-none_early r l e i n = absurd (n (sym (ap told i) ∙ l))
-
--- two closed plans are in one state
-pub both_closed : {N : Type 0} (p q : Plan N) → p.opened ≡ false → q.opened ≡ false → plan_state q ≡ plan_state p
-both_closed p q c d = ap (λ b. cond b (state_of q.table) closed) d ∙ sym (ap (λ b. cond b (state_of p.table) closed) c)
 
 module _ {C R N : Type 0} (K : Kind C R) (net : Net C) (work : ℕ) (h : List Event) (p : Plan N) (runs : Runs K net h p) where
   -- a refused opening leaves the plan as it was

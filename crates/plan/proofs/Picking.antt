@@ -1,13 +1,11 @@
 -- One place more changes the pick if it wants something and is cheaper.
-use Rattle.std.proofs.Common.{◌≡◌, ℕ, zero, suc, ◌+◌, ◌<◌, Bool, true, false, cond, ◌⊎◌, List, [], ◌∷◌, length, get_or, ℤ, pos, ◌≤ℤ◌, ◌<ℤ◌, Some, None, MatchBool, Option, Ordering, sym, refl, ap, ◌∙◌, subst, inl, inr, ⊎_elim, arith}
+use Rattle.std.proofs.Common.{◌≡◌, ℕ, zero, suc, ◌+◌, ◌<◌, Bool, true, false, cond, ◌⊎◌, List, [], ◌∷◌, length, get_or, ℤ, pos, ◌≤ℤ◌, ◌<ℤ◌, Some, None, Option, sym, refl, ap, ◌∙◌, subst, inl, inr, ⊎_elim, arith}
 use Rattle.std.specs.List.{slice_get}
-use Rattle.std.specs.Ordering.{is_lt}
 use Rattle.std.specs.Option.{option_map}
 use Rattle.std.proofs.lemmas.Bool.{cases_lt}
-use Rattle.std.proofs.lemmas.Option.{slice_get_read}
 use Rattle.std.proofs.lemmas.Int.{ints}
 use Rattle.costs.specs.Group.{Below}
-use Rattle.costs.specs.Kind.{Kind, values, Compares}
+use Rattle.costs.specs.Kind.{Kind, values}
 use Rattle.plan.specs.declared.note.Note.{Note}
 use Rattle.plan.specs.declared.note.Note.TheVariants.{Unseen}
 use Rattle.plan.specs.Entries.{Work, is_seen, tables}
@@ -16,10 +14,6 @@ use Rattle.plan.specs.Picks.{Wants, NoneWants, Cheapest, Picked}
 -- a number below n + 1 is below n, or n
 last_or : (v n : ℕ) → v < n + 1 → (v < n) ⊎ (v ≡ n)
 last_or v n l = ⊎_elim (λ h. inl h) (λ h. inr (omega arith)) (cases_lt v n)
-
--- the value of a row that was read
-pub read_value : {C R : Type 0} (K : Kind C R) (rows : List R) (v : ℕ) (r : R) → v < length rows → r ≡ get_or rows v r → option_map (values K) (slice_get rows v) ≡ Some (values K r)
-read_value K rows v r l e = ap (option_map (values K)) (slice_get_read rows (length rows) v r refl l e)
 
 -- some value stands there
 pub some_value : {C R : Type 0} (K : Kind C R) (rows : List R) (v : ℕ) → v < length rows → (x : K.group.Carrier) × (option_map (values K) (slice_get rows v) ≡ Some x)
@@ -96,25 +90,3 @@ module _ {C R : Type 0} (K : Kind C R) (rests : List ℤ) (rows : List R) (notes
       cheapest = λ w z l h. ⊎_elim (λ m. p.cheapest w z m h) (λ e. subst (K.group.le p.value) (same w z e h) more) (last_or w v l);
       lowest = p.lowest;
     }
-
--- two values that were read, against what the rows give
-module _ {C R : Type 0} (K : Kind C R) (rows : List R) (v : ℕ) (r : R) (c : C) (l : v < length rows) (e : r ≡ get_or rows v r) (q : c ≡ K.reads r) where
-  pub as_read : (x : K.group.Carrier) → option_map (values K) (slice_get rows v) ≡ Some x → K.value c ≡ x
-  as_read x h =
-      let a = read_value K rows v r l e in
-      let b : values K r ≡ x = cc in
-      ap K.value q ∙ b
-
--- what a comparison says, as a test
-by_order : {C R : Type 0} (K : Kind C R) (a b : C) (o : Ordering) → Compares K a b o → MatchBool (is_lt o) (Below K.group (K.value a) (K.value b)) (K.group.le (K.value b) (K.value a))
-by_order K a b Ordering.Less h = h
-by_order K a b Ordering.Equal h = subst (λ z. K.group.le (K.value z) (K.value a)) h (K.group.refl_le (K.value a))
-by_order K a b Ordering.Greater h = h.0
-
--- so does the test of two costs that stand for x and y
-pub by_test : {C R : Type 0} (K : Kind C R) (a b : C) (o : Ordering) → Compares K a b o → (r : Bool) → r ≡ is_lt o → (x y : K.group.Carrier) → K.value a ≡ x → K.value b ≡ y →
-    MatchBool r (Below K.group x y) (K.group.le y x)
-by_test K a b o h r e x y p q =
-    subst (λ s. MatchBool s (Below K.group x y) (K.group.le y x)) (sym e)
-    (subst (λ z. MatchBool (is_lt o) (Below K.group z y) (K.group.le y z)) p
-    (subst (λ z. MatchBool (is_lt o) (Below K.group (K.value a) z) (K.group.le z (K.value a))) q (by_order K a b o h)))

@@ -36,7 +36,7 @@ pub struct Outcome {
     pub ending: Ending,
 }
 
-// What a plan answers to a call.
+// What a plan answers to a call: flat, though a `Result` in shape, since the law goes through the answers one by one.
 #[derive(Clone, Copy, PartialEq, Eq, Debug)]
 pub enum Answer {
     Opened,

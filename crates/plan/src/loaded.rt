@@ -5,6 +5,7 @@ use costs::Cost;
 use networks::Network;
 
 // A network that passed the checks, and a load for each of its ways.
+// What its methods write goes beside it, and they require how long that is: in a struct it would need a clause a reference, that this stays the same.
 #[derive(Drop)]
 pub(crate) struct Loaded<'a, N: Network> {
     pub(crate) net: &'a N,

@@ -36,6 +36,20 @@ loop-v-preserved g c =
       | else-cheaper w ↦ subst P (sym w.best-is) (left K rests rows notes v x.0 here c.in-Some.least best (w.if-cheaper.ensures x.0 best.value x.1 value))
     ]
 
+pub loop-v-preserved-then-rest-ge0 : goal.loop-v-preserved-then-rest-ge0
+loop-v-preserved-then-rest-ge0 g c =
+    let K = g.C.Cost.kind in
+    let rests = c.args.rests.now in
+    let rows = c.args.rows.now in
+    let notes = c.args.notes.now in
+    let v = c.loop-v.v in
+    skipped K rests rows notes v c.loop-v.best
+    (elim c.then-rest-ge0.branch as (λ _. (x : K.group.Carrier) → Wants K rests (tables rows notes) v x → ⊥) [
+      | then-rest-ge0-via-then-rest-ge0 w ↦ (λ x h. let z : pos 0 ≤ℤ get_or rests v (pos 0) = search rules in has_rest K rests rows notes v x z h)
+      | then-rest-ge0-via-else-rest-ge0+then-not-is_seen w ↦ (λ x h. not_seen K rests rows notes v x (sym w.if-not-is_seen.ensures) h)
+    ])
+    c.loop-v.invariant
+
 pub returns : goal.returns
 returns g c =
     let t = c.loop-v-test.false in

@@ -1,5 +1,5 @@
 -- Each call leads from the plan that the earlier ones left, and its answer is put behind theirs.
-use Rattle.std.proofs.Common.{◌≡◌, ℕ, List, ◌∷◌, ◌+◌, length, get_or, drop, vec_items, sym, refl, ap, ◌∙◌, subst, subst₂, arith}
+use Rattle.std.proofs.Common.{◌≡◌, ℕ, List, ◌∷◌, ◌+◌, length, get_or, drop, vec_items, sym, ap, ◌∙◌, subst, subst₂, arith}
 use Rattle.plan.specs.State.{Event}
 use Rattle.plan.specs.declared.calls.Call.TheVariants.{Open}
 use Rattle.plan.specs.Histories.{events}

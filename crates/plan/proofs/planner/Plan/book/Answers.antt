@@ -1,4 +1,4 @@
-use Rattle.plan.proofs.Booked.{book_closed, book_done, book_unaltered}
+use Rattle.plan.proofs.Booked.{book_closed, book_done}
 use Rattle.plan.proofs.planner.Plan.book.Goals as goal
 
 pub returns-then-not-self-clause-law : goal.returns-then-not-self-clause-law

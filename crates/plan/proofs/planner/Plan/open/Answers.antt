@@ -1,7 +1,6 @@
-use Rattle.std.proofs.Common.{length, Ok, Err, refl, sym, ◌∙◌, arith}
+use Rattle.std.proofs.Common.{length, refl, sym, ◌∙◌, arith}
 use Rattle.std.proofs.lemmas.Result.{err_from_is_err_and}
-use Rattle.networks.specs.declared.refusal.Refusal.TheVariants.{LosingRing}
-use Rattle.plan.proofs.Opened.{none_early, both_closed, open_already, open_faulty, open_short, open_loses, open_done}
+use Rattle.plan.proofs.Opened.{open_already, open_faulty, open_short, open_loses, open_done}
 use Rattle.plan.proofs.planner.Plan.open.Goals as goal
 
 pub returns-then-self-clause-law : goal.returns-then-self-clause-law

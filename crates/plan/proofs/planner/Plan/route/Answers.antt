@@ -1,4 +1,4 @@
-use Rattle.std.proofs.Common.{refl, arith}
+use Rattle.std.proofs.Common.{arith}
 use Rattle.plan.proofs.RouteEnds.{route_closed, route_short, route_done}
 use Rattle.plan.proofs.planner.Plan.route.Goals as goal
 

@@ -1,4 +1,4 @@
-use Rattle.std.proofs.Common.{refl, arith}
+use Rattle.std.proofs.Common.{arith}
 use Rattle.plan.proofs.Settled.{settle_closed, settle_bad, settle_short, settle_done}
 use Rattle.plan.proofs.planner.Plan.settle.Goals as goal
 
