@@ -1,4 +1,4 @@
-// A group of feet: their length, and how many heads it counts.
+// A group of feet: their length, and how many heads it counts. A type apart from `Last`, so that neither table is taken for the other.
 #[derive(Clone, Copy, PartialEq, Eq, Debug)]
 pub struct Group {
     pub length: u16,

@@ -7,7 +7,7 @@ use super::step::Step;
 use costs::Cost;
 use networks::Network;
 
-// Marks `to`, if `from` is marked. True if that is new.
+// Marks `to`, if `from` is marked. True if that is new. The caller's table has a byte a place, which is 1 for a mark: that is how the question answers.
 fn extend(marks: &mut [u8], from: usize, to: usize) -> bool
     requires within { (from < length marks.old) × (to < length marks.old) }
     ensures { Extended from to marks.old marks.new result }

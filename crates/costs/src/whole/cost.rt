@@ -6,6 +6,7 @@ use crate::cost::{Cost, HEAVIEST, LIGHT};
 use crate::whole::Whole;
 use std::cmp::Ordering;
 
+// A constant can call no `From`.
 const BOUND: i64 = HEAVIEST as i64;
 
 impl Whole {
