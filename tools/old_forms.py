@@ -1,4 +1,4 @@
-"""Counts the places in src/ that may still read like the older language, point by point, and lists them with -v.
+"""Counts the places in src/ that may still read like the older language, by topic, and lists them with -v.
 
     python3 tools/old_forms.py [-v] [FOLDER]
 
@@ -23,9 +23,9 @@ def grep(pattern, paths=sources):
                 yield f"{path.relative_to(folder)}:{number}: {line.strip()}"
 
 
-def tell(point, what, found):
+def tell(topic, what, found):
     found = list(found)
-    print(f"{point} {what}: {len(found)}")
+    print(f"{topic}: {what}: {len(found)}")
     if verbose:
         for line in found:
             print("    " + line)
@@ -76,19 +76,19 @@ def uncited():
                 yield f"{path.relative_to(folder)}: {name}"
 
 
-tell(1, "own enums", grep(r"^ *(pub(\(crate\))? )?enum "))
-tell(1, "flags", grep(r"Vec<bool>|\[bool\]|: bool,$"))
-tell(1, "numbers for kinds, or 0 for none", grep(r"kind: u8|&\[[1-9](,|\])|return 0;"))
-tell(1, "refusals in an Option", grep(r"Option<Refusal>"))
-tell(2, "functions of one shape", twins())
-tell(3, "loops over numbers, or with no for", grep(r"for .* in .*\.\.|while |loop \{"))
-tell(4, "text made by hand", grep(r"format!\(in"))
-tell(4, "casts", grep(r" as (usize|u64|u32|u16|u8|i64|i32)\b"))
-tell(4, "comparisons taken apart", grep(r"if let Ordering::"))
-tell(5, "facts required by three functions or more", requirements())
-tell(6, "lengths beside what they measure", grep(r"\blen: usize"))
-tell(6, "arrays of fixed length in a type", grep(r"^ *(pub(\(crate\))? )?\w+: \[.*; \d+\],"))
-tell(7, "function pointers and dyn", grep(r"\bfn\(|dyn "))
-tell(8, "proof files", (str(p.relative_to(folder)) for p in proofs))
-print("8 lines of proofs:", sum(len(p.read_text().splitlines()) for p in proofs))
-tell(8, "lemmas that nothing cites", uncited())
+tell("enums and flags", "own enums", grep(r"^ *(pub(\(crate\))? )?enum "))
+tell("enums and flags", "flags", grep(r"Vec<bool>|\[bool\]|: bool,$"))
+tell("enums and flags", "numbers for kinds, or 0 for none", grep(r"kind: u8|&\[[1-9](,|\])|return 0;"))
+tell("enums and flags", "refusals in an Option", grep(r"Option<Refusal>"))
+tell("twins", "functions of one shape", twins())
+tell("loops", "loops over numbers, or with no for", grep(r"for .* in .*\.\.|while |loop \{"))
+tell("by hand", "text made by hand", grep(r"format!\(in"))
+tell("by hand", "casts", grep(r" as (usize|u64|u32|u16|u8|i64|i32)\b"))
+tell("by hand", "comparisons taken apart", grep(r"if let Ordering::"))
+tell("facts", "facts required by three functions or more", requirements())
+tell("buffers", "lengths beside what they measure", grep(r"\blen: usize"))
+tell("buffers", "arrays of fixed length in a type", grep(r"^ *(pub(\(crate\))? )?\w+: \[.*; \d+\],"))
+tell("switches", "function pointers and dyn", grep(r"\bfn\(|dyn "))
+tell("proofs", "proof files", (str(p.relative_to(folder)) for p in proofs))
+print("proofs: lines:", sum(len(p.read_text().splitlines()) for p in proofs))
+tell("proofs", "lemmas that nothing cites", uncited())

@@ -19,6 +19,7 @@ fn show(rt: &HostRuntime, number: usize, case: Case) -> anyhow::Result<()> {
     Ok(())
 }
 
+// As in `run_cases`: a function for both that takes what to show would be as long.
 fn main(rt: HostRuntime) -> anyhow::Result<()> {
     let mut input = Vec::new(rt.alloc());
     rt.stdin().read_to_end(&mut input)?;

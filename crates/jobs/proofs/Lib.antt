@@ -1,3 +1,4 @@
+-- Lemmas that the proofs of this crate share.
 pub mod Listed
 pub mod Signs
 pub mod Places

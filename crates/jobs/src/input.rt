@@ -6,7 +6,7 @@ use std::alloc::Global;
 use std::io;
 use std::io::Read;
 
-// The bytes of a file from the input. One byte more than a file may have is enough to know that it is too long.
+// The bytes of a file from the input. One byte more than a file may have is enough to know that it is too long (a `u64` has no `From` of a `usize`).
 pub fn read_file<R: Read + Drop>(heap: Global, input: R) -> io::Result<Vec<u8>>
     ensures { IfOk result (λ bytes. IfSome (R.remaining input) (λ xs. bytes.items ≡ take (longest + 1) xs)) }
 {

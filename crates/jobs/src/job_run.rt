@@ -1,7 +1,8 @@
 ghost use Rattle.std.specs.Prelude.{◌≡◌, length, IfOk, MatchResult, string_bytes};
 ghost use Rattle.jobs.specs.declared.form.Form.TheVariants as form;
 ghost use Rattle.jobs.specs.JobRuns.{asked_call, fits, total_said, prices_said, Puts, Ran, JobSays};
-ghost use Rattle.jobs.specs.Lines.{line_bytes};
+ghost use Rattle.plan.specs.declared.calls.Answer.TheVariants.{Refused};
+ghost use Rattle.jobs.specs.Lines.{answer_line, line_bytes};
 ghost use Rattle.jobs.specs.Stops.{StoppedBy};
 ghost use Rattle.jobs.specs.Sections.{section_net};
 
@@ -32,6 +33,16 @@ fn call_of(entry: Entry) -> Option<Call>
     }
 }
 
+// The line of a refused question.
+fn refused<'a>(offset: usize, refusal: Refusal) -> Line<'a>
+    ensures { line_bytes result ≡ answer_line offset (Refused refusal) }
+{
+    Line::Answer {
+        offset,
+        answer: Answer::Refused(refusal),
+    }
+}
+
 // The line of a total.
 fn line_of_total<'a>(offset: usize, told: Result<Pair<Whole, Whole>, Refusal>) -> Line<'a>
     ensures { line_bytes result ≡ total_said offset told }
@@ -41,10 +52,7 @@ fn line_of_total<'a>(offset: usize, told: Result<Pair<Whole, Whole>, Refusal>) -
             let (redraws, misfit) = cost.row();
             Line::PairTotal { redraws, misfit }
         }
-        Err(refusal) => Line::Answer {
-            offset,
-            answer: Answer::Refused(refusal),
-        },
+        Err(refusal) => refused(offset, refusal),
     }
 }
 
@@ -54,10 +62,7 @@ fn line_of_prices<'a>(offset: usize, told: Result<(), Refusal>, rows: &'a [(i64,
 {
     match told {
         Ok(()) => Line::Prices { rows },
-        Err(refusal) => Line::Answer {
-            offset,
-            answer: Answer::Refused(refusal),
-        },
+        Err(refusal) => refused(offset, refusal),
     }
 }
 

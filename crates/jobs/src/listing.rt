@@ -91,6 +91,7 @@ fn lines(heap: Global, form: Form, bytes: &[u8]) -> Result<String, Stop>
 {
     let mut text = String::new(heap);
     let mut reader = Reader::new(form, bytes);
+    // `next` is the question of a reader, and can fail: so the lines are counted, and no iterator's.
     let mut index = 0;
     while let Some(record) = reader.next()? {
         let said = Numbered {

@@ -55,6 +55,7 @@ impl<'a> Network for FileSection<'a> {
         self.ways
     }
 
+    // This question and the next read one record, each its own half of it.
     fn way(&self, k: usize) -> Option<Ends> {
         if k >= self.ways {
             return None;

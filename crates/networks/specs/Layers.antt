@@ -1,21 +1,14 @@
 -- What a layer means: the network below, with the ways whose numbers it lists changed.
-use Rattle.std.specs.List.{list_any}
-use Rattle.std.specs.Prelude.{◌≡◌, ℕ, ◌+◌, ◌<◌, ◌≤◌, Bool, true, false, ◌⊎◌, List, [], ◌∷◌, ◌++◌, length, Ok, Err, Result, ◌==◌}
+use Rattle.std.specs.Prelude.{◌≡◌, ℕ, ◌+◌, ◌<◌, ◌≤◌, true, false, ◌⊎◌, List, [], ◌∷◌, ◌++◌, length, Ok, Err, Result}
 use Rattle.arrayvec.specs.ArrayVec.{ArrayVec}
-use Rattle.costs.specs.declared.whole.Whole.{Whole}
-use Rattle.costs.specs.declared.pair.Pair.{Pair}
 use Rattle.networks.specs.Net.{Net, Way}
 use Rattle.networks.specs.declared.refusal.Refusal.{Refusal}
 use Rattle.networks.specs.declared.refusal.Refusal.TheVariants.{NoWay, FullList}
-use Rattle.networks.specs.Changes.{shut_limit, redraw_cost}
+use Rattle.networks.specs.Changes.{has}
 
 -- the way numbers in a list
 abbrev pub listed : ArrayVec ℕ → List ℕ
 listed l = l.items
-
--- whether a number stands in a list
-abbrev pub has : List ℕ → ℕ → Bool
-has ks k = list_any (λ x. x == k) ks
 
 abbrev pub most_listed : ℕ
 most_listed = 64
@@ -28,18 +21,6 @@ each_from i f (x ∷ xs) = f i x ∷ each_from (i + 1) f xs
 -- the network with each way changed by its number
 abbrev pub with_ways : {C D : Type 0} → (ℕ → Way C → Way D) → Net C → Net D
 with_ways f net = record { places = net.places; ways = each_from 0 f net.ways }
-
--- a way with its limit and its cost changed, each according to whether the way's number is listed
-abbrev pub changed : {C D : Type 0} → (Bool → ℕ → ℕ) → (Bool → C → D) → List ℕ → ℕ → Way C → Way D
-changed limits costs ks k w = record { tail = w.tail; head = w.head; limit = limits (has ks k) w.limit; cost = costs (has ks k) w.cost }
-
--- a listed way has limit 0
-abbrev pub shut_way : {C : Type 0} → List ℕ → ℕ → Way C → Way C
-shut_way ks k w = changed shut_limit (λ _ cost. cost) ks k w
-
--- the cost of a way is the pair of 1 or 0, listed or not, and the cost below
-abbrev pub redraw_way : {C : Type 0} → List ℕ → ℕ → Way C → Way (Pair Whole C)
-redraw_way ks k w = changed (λ _ limit. limit) redraw_cost ks k w
 
 -- what adding way number k to a layer over so many ways answers, and how its list ends
 abbrev pub Adds : ℕ → List ℕ → ℕ → Result (Unit {0}) Refusal → List ℕ → Type 0

@@ -1,5 +1,6 @@
-ghost use Rattle.std.specs.Prelude.{◌≡◌, ℕ, Bool};
-ghost use Rattle.networks.specs.Changes.{shut_limit, redraw_cost};
+ghost use Rattle.std.specs.Prelude.{◌≡◌, ℕ, Bool, List, refl};
+ghost use Rattle.networks.specs.Net.{Way};
+ghost use Rattle.networks.specs.Changes.{changed, shut_limit, shut_way, redraw_cost, redraw_way};
 
 use costs::{Cost, Pair, Whole};
 
@@ -12,11 +13,17 @@ pub trait Change<C: Cost> {
 
     ghost costs: { Bool → C → Self.Cost };
 
+    // what becomes of way `k` under a list
+    ghost changes: { List ℕ → ℕ → Way C → Way Self.Cost };
+
     fn limit(listed: bool, limit: u32) -> u32
         ensures { result ≡ limits listed limit };
 
     fn cost(listed: bool, cost: C) -> Self::Cost
         ensures { result ≡ costs listed cost };
+
+    // It changes nothing but the limit and the cost, and these by whether the way is listed.
+    ghost by_limit_and_cost: { (ks : List ℕ) (k : ℕ) (w : Way C) → changes ks k w ≡ changed limits costs ks k w };
 }
 
 // A listed way has limit 0.
@@ -29,6 +36,10 @@ impl<C: Cost> Change<C> for Shutting {
     ghost limits = { shut_limit };
 
     ghost costs = { λ _ cost. cost };
+
+    ghost changes = { shut_way };
+
+    ghost by_limit_and_cost = { λ ks k w. refl };
 
     fn limit(listed: bool, limit: u32) -> u32 {
         if listed { 0 } else { limit }
@@ -49,6 +60,10 @@ impl<C: Cost> Change<C> for Redrawing {
     ghost limits = { λ _ limit. limit };
 
     ghost costs = { redraw_cost };
+
+    ghost changes = { redraw_way };
+
+    ghost by_limit_and_cost = { λ ks k w. refl };
 
     fn limit(_listed: bool, limit: u32) -> u32 {
         limit

@@ -1,5 +1,6 @@
 ghost use Rattle.std.specs.Prelude.{◌≡◌, [], length};
-ghost use Rattle.networks.specs.Layers.{listed, has, changed, with_ways, Adds};
+ghost use Rattle.networks.specs.Changes.{has};
+ghost use Rattle.networks.specs.Layers.{listed, with_ways, Adds};
 
 use super::change::{Change, Redrawing, Shutting};
 use super::ends::Ends;
@@ -63,7 +64,7 @@ impl<N: Network, X: Change<N::Cost>> Layer<N, X> {
 impl<N: Network, X: Change<N::Cost>> Network for Layer<N, X> {
     type Cost = X::Cost;
 
-    ghost means = { λ s. with_ways (changed X.limits X.costs (listed s.list)) (N.Network.means s.below) };
+    ghost means = { λ s. with_ways (X.changes (listed s.list)) (N.Network.means s.below) };
 
     fn places(&self) -> usize {
         self.below.places()

@@ -66,7 +66,7 @@ impl fmt::Display for Ending {
     fn fmt<W: fmt::Write>(&self, f: &mut fmt::Formatter<W>) -> fmt::Result {
         match self {
             Ending::Settled => write!(f, "settled"),
-            Ending::Blocked { at } => write!(f, "blocked {at}"),
+            Ending::Blocked { at } => write!(f, "{}", Routed::Blocked { at: *at }),
             Ending::Unfinished => write!(f, "unfinished"),
         }
     }
@@ -87,10 +87,23 @@ impl fmt::Display for Answer {
         match self {
             Answer::Opened => write!(f, "open"),
             Answer::Booked => write!(f, "booked"),
-            Answer::Settled => write!(f, "settled"),
-            Answer::Blocked { at } => write!(f, "blocked {at}"),
-            Answer::Sent { from, to, amount } => write!(f, "sent {amount} from {from} to {to}"),
-            Answer::Ran { routes, ending } => write!(f, "{routes} {ending}"),
+            Answer::Settled => write!(f, "{}", Routed::Settled),
+            Answer::Blocked { at } => write!(f, "{}", Routed::Blocked { at: *at }),
+            Answer::Sent { from, to, amount } => {
+                let sent = Routed::Sent {
+                    from: *from,
+                    to: *to,
+                    amount: *amount,
+                };
+                write!(f, "{sent}")
+            }
+            Answer::Ran { routes, ending } => {
+                let outcome = Outcome {
+                    routes: *routes,
+                    ending: *ending,
+                };
+                write!(f, "{outcome}")
+            }
             Answer::Refused(refusal) => write!(f, "{refusal}"),
         }
     }

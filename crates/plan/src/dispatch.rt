@@ -75,7 +75,7 @@ impl Table {
             loads: self.loads.as_slice(),
         };
         let Some(amount) = loaded.trace(self.notes.as_slice(), &mut self.path, to, asked) else {
-            // Not in an open plan, as the contract says; of any other table it promises no amount.
+            // Not in an open plan, as the contract says. An `Option` would only pass the question on to `route`, whose answer has no case for it either.
             return 0;
         };
         send(self.loads.as_mut_slice(), self.path.as_slice(), amount);

@@ -1,4 +1,4 @@
-// What holds of every plan over every network.
+// What holds of every plan over every network. The contracts say it; the number that is answered says nothing, and stays for those who call.
 ghost use Rattle.plan.specs.Determined.{Determined};
 ghost use Rattle.plan.specs.Law.{Law};
 

@@ -32,7 +32,7 @@ impl<N: Network> Loaded<'_, N> {
         extend(marks, leg.from, leg.to)
     }
 
-    // Marks along the steps of every way, each ahead and back. True if a mark is new.
+    // Marks along the steps of every way, each ahead and back. True if a mark is new. It goes as a scan does; one text for both would take what is done at a step as a closure over what was lent, and say its effect in each contract.
     fn sweep(&self, marks: &mut [u8]) -> bool
         requires { length marks.old ≡ (N.Network.means self.now.net.now).places }
         ensures { Spread N.Cost.Cost.kind (N.Network.means self.now.net.now) self.now.loads.now (λ s. Unit {0})

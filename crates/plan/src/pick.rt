@@ -31,7 +31,7 @@ pub(crate) fn cheapest<C: Cost>(rests: &[i64], rows: &[C::Row], notes: &[Note]) 
     requires notes { length rests.now ≤ length notes.now }
     ensures { Picked C.Cost.kind rests.now (tables rows.now notes.now) (length rests.now) result }
 {
-    // A chain to `min_by` is no plainer: both of its closures would have to bound the places that they read.
+    // With `filter` and `min_by` the proof does not close: that the closure may be called at each place stays open.
     let mut best = None;
     for (v, &rest) in rests.iter().enumerate() {
         if rest >= 0 || !notes[v].is_seen() {

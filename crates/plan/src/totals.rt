@@ -31,6 +31,7 @@ impl Table {
             (λ c. N.Cost.Cost.kind.value c ≡ costs N.Cost.Cost.kind (N.Network.means net.now).ways self.now.loads.items) }
     {
         let mut total = N::Cost::zero();
+        // A network answers about a way by its number, and is no slice to go over.
         for k in 0..net.ways() {
             let cost = net.cost(k)?;
             let part = multiple(cost, self.load(k)?)?;

@@ -10,7 +10,7 @@ use std::cmp::Ordering;
 const BOUND: i64 = HEAVIEST as i64;
 
 impl Whole {
-    // The cost of that number, or none outside the bounds.
+    // The cost of that number, or none outside the bounds: the test of its own type, whose error would have nothing to tell.
     pub fn new(amount: i64) -> Option<Whole>
         ensures { MatchOption result (heaviest < unsigned_abs amount) (λ x. x.amount ≡ amount) }
     {
@@ -54,6 +54,7 @@ impl Cost for Whole {
             return None;
         }
         Some(Whole {
+            // With `i64::from` the proof of the product does not close.
             amount: n as i64 * self.amount,
         })
     }

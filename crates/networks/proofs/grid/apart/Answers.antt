@@ -1,3 +1,4 @@
+-- The difference of two lengths is read as that cost.
 use Rattle.std.proofs.Common.{pos, ap, ◌∙◌, w64, SFits, rules}
 use Rattle.std.proofs.lemmas.Int.{to_z-of_z}
 use Rattle.costs.specs.Whole.{whole_kind}

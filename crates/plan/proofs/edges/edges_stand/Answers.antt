@@ -1,3 +1,4 @@
+-- Each edge case, by its lemma.
 use Rattle.costs.specs.Whole.{whole_kind}
 use Rattle.plan.specs.Edges.{pairs}
 use Rattle.plan.proofs.BothWays.{pair_order, sum_too_heavy, both_ways}

@@ -1,3 +1,4 @@
+-- The rules determine each answer up to the route.
 use Rattle.plan.proofs.Determined.{determined}
 use Rattle.plan.proofs.laws.determined_stands.Goals as goal
 

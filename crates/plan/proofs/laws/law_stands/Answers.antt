@@ -1,3 +1,4 @@
+-- The law holds after every list of calls.
 use Rattle.plan.proofs.Stands.{law}
 use Rattle.plan.proofs.laws.law_stands.Goals as goal
 

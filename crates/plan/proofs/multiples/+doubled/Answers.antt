@@ -1,3 +1,4 @@
+-- Twice the half, and one more if the number is odd, is the n-fold sum.
 use Rattle.plan.proofs.Doubling.{fold_even, odd_made, even_over}
 use Rattle.plan.proofs.multiples.+doubled.Goals as goal
 

@@ -1,3 +1,4 @@
+-- The number falls to its half.
 use Rattle.plan.proofs.multiples.+doubled.Given as goal
 
 abbrev pub decreases-doubled : goal.decreases-doubled

@@ -1,3 +1,4 @@
+-- The ways are counted over the tables as they are cut.
 use Rattle.networks.proofs.Gridded.{ways_count}
 use Rattle.networks.proofs.grid.SizeGridNetwork.ways.Goals as goal
 

@@ -7,9 +7,9 @@ use Rattle.networks.proofs.layer.LayerNetwork.way.Goals as goal
 pub returns-in_err-below : goal.returns-in_err-below
 returns-in_err-below g c =
     c.from_residual.ensures
-    ∙ no_ends g.X.Change.limits g.X.Change.costs (listed c.args.self.now.list) (g.N.Network.means c.args.self.now.below).ways c.args.k c.in_err-below.ensures
+    ∙ no_ends g.X.Change.limits g.X.Change.costs g.X.Change.changes g.met.X.Change.by_limit_and_cost (listed c.args.self.now.list) (g.N.Network.means c.args.self.now.below).ways c.args.k c.in_err-below.ensures
 
 pub returns : goal.returns
 returns g c =
-    some_ends g.X.Change.limits g.X.Change.costs (listed c.args.self.now.list) (g.N.Network.means c.args.self.now.below).ways c.args.k c.in_ok-below.below _
+    some_ends g.X.Change.limits g.X.Change.costs g.X.Change.changes g.met.X.Change.by_limit_and_cost (listed c.args.self.now.list) (g.N.Network.means c.args.self.now.below).ways c.args.k c.in_ok-below.below _
     c.in_ok-below.ensures (c.limit.ensures ∙ ap (λ b. g.X.Change.limits b c.in_ok-below.below.limit) c.lists.ensures)

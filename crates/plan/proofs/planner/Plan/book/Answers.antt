@@ -1,3 +1,4 @@
+-- A booking moves two rests or is refused, in an open plan and in a closed one.
 use Rattle.plan.proofs.Booked.{book_closed, book_done}
 use Rattle.plan.proofs.planner.Plan.book.Goals as goal
 

@@ -1,3 +1,4 @@
+-- A new plan is where no calls lead.
 use Rattle.std.proofs.Common.{min, length, refl, ap, ◌∙◌}
 use lib.ListN.{length-replicate}
 use Rattle.plan.specs.Law.{start}

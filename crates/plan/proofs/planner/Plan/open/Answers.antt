@@ -1,3 +1,4 @@
+-- An opening is refused by its first fault or for a losing ring, and else leaves all at zero.
 use Rattle.std.proofs.Common.{length, refl, sym, ◌∙◌, arith}
 use Rattle.std.proofs.lemmas.Result.{err_from_is_err_and}
 use Rattle.plan.proofs.Opened.{open_already, open_faulty, open_short, open_loses, open_done}

@@ -1,3 +1,4 @@
+-- A route is refused by its first fault, and else goes by the table.
 use Rattle.std.proofs.Common.{arith}
 use Rattle.plan.proofs.RouteEnds.{route_closed, route_short, route_done}
 use Rattle.plan.proofs.planner.Plan.route.Goals as goal

@@ -1,3 +1,4 @@
+-- A settle is refused by its first fault, and else goes by the table.
 use Rattle.std.proofs.Common.{arith}
 use Rattle.plan.proofs.Settled.{settle_closed, settle_bad, settle_short, settle_done}
 use Rattle.plan.proofs.planner.Plan.settle.Goals as goal

@@ -1,3 +1,4 @@
+-- Each way adds its cost as often as its load, and the sum is made in an open plan.
 use Rattle.std.proofs.Common.{◌<◌, ◌≤◌, length, vec_items, arith}
 use Rattle.plan.specs.Tables.{state_of}
 use Rattle.plan.proofs.Checked.{cost_there}
