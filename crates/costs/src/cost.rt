@@ -9,7 +9,7 @@ pub const HEAVIEST: u64 = 4_000_000_000_000_000_000;
 // An n-fold sum is made up to this number, of costs up to this weight.
 pub const LIGHT: u32 = 1_000_000;
 
-// A kind of cost. `kind` says what each answer is.
+// A kind of cost. `kind` says what each answer is. Order and rows are questions of the trait itself: a supertrait `Ord`, or `From` of rows, would ask more of whoever writes a kind.
 pub trait Cost: Copy {
     ghost kind: { Kind Self Self.Row };
 

@@ -26,6 +26,7 @@ pub(crate) fn put(table: &mut [u8], offset: usize, bytes: &[u8]) -> Result<usize
     Ok(end)
 }
 
+// How much room is left is asked at each width: a type that counted it would be another after each number.
 fn add<const N: usize>(bytes: &mut Bytes, number: [u8; N])
     requires { array_vec_len bytes.old + N ≤ 17 }
     ensures items { bytes.new.items ≡ bytes.old.items ++ number.entry }

@@ -10,6 +10,8 @@ use networks::{Network, Refusal};
 
 impl<N: Network> Plan<N> {
     // Whether the plan is open. The network passed the checks then, and is asked again: a type that said so would want `N: Network` of all who name a plan.
+    // Each call asks this first, and then its own numbers in the ruled order: so the guards of the calls share no more than this.
+    // What a call says of the entries past the last place, and of the network, is about that call: no type could hold it.
     pub(crate) fn usable(&self) -> bool
         ensures { MatchBool result (Usable N.Cost.Cost.kind (N.Network.means self.now.net) self.now)
             (NeverOpened N.Cost.Cost.kind (N.Network.means self.now.net) self.now) }

@@ -51,7 +51,7 @@ const WAYS: [WayRecord<Row>; 5] = [
     },
 ];
 
-// A total as it is told.
+// A total as it is told, and below the prices: the lines of `jobs`, which this crate does not see.
 #[derive(Clone, Copy)]
 struct Total(Fit);
 
