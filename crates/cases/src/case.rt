@@ -11,7 +11,7 @@ pub struct Case<'a> {
     pub rest: &'a [u8],
 }
 
-// Both types are of other crates, so that this is no `TryFrom`.
+// Both types are of other crates, so that this is no `TryFrom`; in `jobs` no file has such a byte.
 fn form_of(byte: u8) -> anyhow::Result<Form> {
     match byte {
         0 => Ok(Form::Job),
@@ -28,6 +28,7 @@ pub fn first_case(bytes: &[u8]) -> anyhow::Result<Case<'_>>
         return Err(anyhow!("the input ends inside the head of a case"));
     };
     let form = form_of(*form)?;
+    // A `usize` has no `From` of a `u32`.
     let len = u32::from_be_bytes([*a, *b, *c, *d]) as usize;
     if behind.len() < len {
         return Err(anyhow!("the input ends inside a file"));

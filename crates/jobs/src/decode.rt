@@ -7,6 +7,7 @@ ghost use Rattle.jobs.specs.Kinds.{body_length};
 use super::entry::Entry;
 use super::kind::Kind;
 
+// One word for each width, as the definitions have.
 pub(crate) fn two(a: u8, b: u8) -> u16
     ensures { two_bytes result ≡ a ∷ b ∷ [] }
 {

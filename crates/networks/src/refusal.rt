@@ -31,6 +31,7 @@ pub enum Refusal {
 }
 
 impl Refusal {
+    // A question, and no `From`: there is no way back from a number to a refusal.
     pub fn number(self) -> u8
         ensures { result ≡ number_of self }
     {

@@ -10,7 +10,7 @@ use super::table::Table;
 use costs::Cost;
 use networks::Network;
 
-// The smaller of what one place has and what another wants.
+// The smaller of what one place has and what another wants. It is cut to what a rest can be, and so fits.
 fn smaller(have: i64, want: i64) -> u32
     ensures { pos 0 <ℤ have → have ≤ℤ pos 1000000000 → want <ℤ pos 0 → Smaller have want result }
 {
