@@ -26,10 +26,10 @@ impl<N: Network> Loaded<'_, N> {
         ensures { Spread N.Cost.Cost.kind (N.Network.means self.now.net.now) self.now.loads.now (λ s. s ≡ step)
             marks.old marks.new result }
     {
-        let Some(leg) = self.leg(step) else {
+        let Some(span) = self.span(step) else {
             return false;
         };
-        extend(marks, leg.from, leg.to)
+        extend(marks, span.from, span.to)
     }
 
     // Marks along the steps of every way, each ahead and back. True if a mark is new. It goes as a scan does; one text for both would take what is done at a step as a closure over what was lent, and say its effect in each contract.
