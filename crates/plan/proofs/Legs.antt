@@ -74,7 +74,7 @@ module _ {C R : Type 0} (K : Kind C R) (net : Net C) (loads : List ℕ) where
         let i : j ≡ k = ap way_of (sym q) ∙ sym along in
         let P : Step → Ends → Type 0 = λ z x. SpanIf z (record { from = x.tail; to = x.head; room = room }) in
         subst (λ z. P z e) (sym (q ∙ ap (λ m. Ahead m) i))
-            (subst (P (Ahead k)) (sym way.2) (span_ahead k way.0 way.1 room (is ∙ ap (λ (x : Ends). x.limit - get_or loads k 0) way.2)))
+        (subst (P (Ahead k)) (sym way.2) (span_ahead k way.0 way.1 room (is ∙ ap (λ (x : Ends). x.limit - get_or loads k 0) way.2)))
 
     pub back : (room : ℕ) → s ≡ Back j → room ≡ get_or loads k 0 → SpanIf s (record { from = e.head; to = e.tail; room = room })
     back room q is =
