@@ -29,10 +29,10 @@ impl<N: Network> Loaded<'_, N> {
                 Note::Unseen => return None,
                 Note::Start => return Some(left),
                 Note::Via(step) => {
-                    let leg = self.leg(step)?;
+                    let span = self.span(step)?;
                     path.push_reserved(step);
-                    left = left.min(leg.room);
-                    at = leg.from;
+                    left = left.min(span.room);
+                    at = span.from;
                 }
             }
         }

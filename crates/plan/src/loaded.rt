@@ -13,3 +13,12 @@ pub(crate) struct Loaded<'a, N: Network> {
     ghost fair: { net_fault N.Cost.Cost.kind (N.Network.means net.now) ≡ None },
     ghost long: { length loads.now ≡ length (N.Network.means net.now).ways },
 }
+
+impl<N: Network> Loaded<'_, N> {
+    // How many ways the network has. One that passed the checks has few.
+    pub(crate) fn ways(&self) -> u16
+        ensures { result ≡ length (N.Network.means self.now.net.now).ways }
+    {
+        self.net.ways() as u16
+    }
+}

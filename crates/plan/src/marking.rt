@@ -26,10 +26,10 @@ impl<N: Network> Loaded<'_, N> {
         ensures { Spread N.Cost.Cost.kind (N.Network.means self.now.net.now) self.now.loads.now (λ s. s ≡ step)
             marks.old marks.new result }
     {
-        let Some(leg) = self.leg(step) else {
+        let Some(span) = self.span(step) else {
             return false;
         };
-        extend(marks, leg.from, leg.to)
+        extend(marks, span.from, span.to)
     }
 
     // Marks along the steps of every way, each ahead and back. True if a mark is new. It goes as a scan does; one text for both would take what is done at a step as a closure over what was lent, and say its effect in each contract.
@@ -40,7 +40,7 @@ impl<N: Network> Loaded<'_, N> {
     {
         let mut changed = false;
         // A step carries the number of its way, and a network is no slice: so the loop counts.
-        for k in 0..self.net.ways() {
+        for k in 0..self.ways() {
             changed |= self.mark_along(marks, Step::Ahead(k));
             changed |= self.mark_along(marks, Step::Back(k));
         }

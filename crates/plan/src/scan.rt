@@ -43,7 +43,7 @@ impl<N: Network> Loaded<'_, N> {
     {
         let mut changed = false;
         // A step carries the number of its way, and a network is no slice: so the loop counts.
-        for k in 0..self.net.ways() {
+        for k in 0..self.ways() {
             changed |= self.relax_along(rows, notes, Step::Ahead(k));
             changed |= self.relax_along(rows, notes, Step::Back(k));
         }

@@ -36,13 +36,13 @@ returns-in-Start-clause-trails g c rows from y e =
     c.loop.path.items c.loop.at c.loop.left (c.loop.invariant.leads rows from y e)
     (note_is c.args.notes.now c.loop.at c.in_ok-step.field-0.now _ there.3.0 there.1 c.in-Start.is)
 
-pub returns-in_err-leg-in-Via-clause-trails : goal.returns-in_err-leg-in-Via-clause-trails
-returns-in_err-leg-in-Via-clause-trails g c rows from y e =
+pub returns-in_err-span-in-Via-clause-trails : goal.returns-in_err-span-in-Via-clause-trails
+returns-in_err-span-in-Via-clause-trails g c rows from y e =
     let there = c.in_ok-step.ensures.lookup in
     absurd (far_open g.N.Cost.Cost.kind (g.N.Network.means c.args.self.now.net.now) c.args.self.now.loads.now c.args.notes.now rows from c.args.to c.args.amount y e
     (reverse c.loop.path.items) c.loop.at c.loop.left (c.loop.invariant.leads rows from y e) c.in-Via.step
     (note_is c.args.notes.now c.loop.at c.in_ok-step.field-0.now _ there.3.0 there.1 c.in-Via.is)
-    c.in_err-leg-in-Via.ensures)
+    c.in_err-span-in-Via.ensures)
 
 pub loop-preserved : goal.loop-preserved
 loop-preserved g c =
@@ -54,7 +54,7 @@ loop-preserved g c =
           far_turn g.N.Cost.Cost.kind (g.N.Network.means c.args.self.now.net.now) c.args.self.now.loads.now c.args.notes.now rows from c.args.to c.args.amount y e
           c.loop.path.items c.loop.at c.loop.left (c.loop.invariant.leads rows from y e) _ c.in-Via.step c.push_reserved.ensures.items
           (note_is c.args.notes.now c.loop.at c.in_ok-step.field-0.now _ there.3.0 there.1 c.in-Via.is)
-          _ _ c.min-left.result _ _ c.in_ok-leg-in-Via.ensures c.min-left.ensures;
+          _ _ c.min-left.result _ _ c.in_ok-span-in-Via.ensures.1 c.min-left.ensures;
     }
 
 pub returns-clause-trails : goal.returns-clause-trails
