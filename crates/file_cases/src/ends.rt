@@ -26,7 +26,7 @@ fn copy(
     let end = copy_file(form, file, table.as_mut_slice());
     let good = match end {
         Ok(_) => table.as_slice() == file,
-        Err(_) => table.iter().all(|&byte| byte == BLANK),
+        Err(_) => table == vec![in heap; BLANK; len]?,
     };
     Ok((end, good))
 }

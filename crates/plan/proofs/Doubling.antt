@@ -1,5 +1,5 @@
 -- An n-fold sum that is made by doubling is the n-fold sum, weighs at most n times as much, and is not made only if that is too heavy.
-use Rattle.std.proofs.Common.{◌≡◌, ℕ, ◌+◌, ◌*◌, ◌/◌, ◌%◌, ◌<◌, ◌≤◌, sym, ap₂, ◌∙◌, subst, arith, mul-le-mul_right, add-mul, MatchOption, Option, Some, None}
+use Rattle.std.proofs.Common.{◌≡◌, ℕ, ◌+◌, ◌*◌, ◌/◌, ◌%◌, ◌<◌, ◌≤◌, sym, ap, ap₂, ◌∙◌, subst, arith, mul-le-mul_right, add-mul, MatchOption, Option, Some, None}
 use Rattle.costs.specs.Group.{times}
 use Rattle.costs.specs.Kind.{Kind, Sums, heaviest}
 use Rattle.plan.proofs.Costs.{times_add}
@@ -13,6 +13,12 @@ module _ {C R : Type 0} (K : Kind C R) (x : C) where
   -- what is answered where n-fold sums are made
   abbrev pub Answers : ℕ → Option C → Type 0
   Answers n r = MatchOption r (heaviest < n * K.weighs x) (λ s. (K.value s ≡ times K.group n (K.value x)) × (K.weighs s ≤ n * K.weighs x))
+
+  pub fold_none : (n : ℕ) (s : C) → n ≡ 0 → K.value s ≡ K.group.zero → Fold n s
+  fold_none n s e z = record {
+    value = z ∙ ap (λ k. times K.group k (K.value x)) (sym e);
+    weight = omega (arith, K.zero_weighs s z);
+  }
 
   pub fold_sum : (m n : ℕ) (s t u : C) → Fold m s → Fold n t → K.value u ≡ K.group.plus (K.value s) (K.value t) → Fold (m + n) u
   fold_sum m n s t u p q e = record {

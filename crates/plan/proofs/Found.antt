@@ -56,6 +56,16 @@ module _ {C R : Type 0} (K : Kind C R) (net : Net C) (f : List ℕ) where
         (λ r. record { taken = (r.steps, subst (Route K net f 1 u r.steps v) (K.group.antisym _ _ r.cheaper (low r.steps r.cost r.route)) r.route); least = low })
         (cut_down K net f (found.walked v y at).2)
 
+    -- and where it starts that is zero
+    begins_zero : (x : K.group.Carrier) → At u x → x ≡ K.group.zero
+    begins_zero x i =
+        let G = K.group in
+        let m = found.start in
+        let low : G.le x G.zero = subst (λ z. G.le z G.zero) (found.entries.one u m.0 x m.1 i) m.2 in
+        let b = rises found.entries i (found.walked u x i).2 in
+        let up : G.le x (G.plus x x) = subst (λ z. G.le z (G.plus x x)) (found.entries.one u b.0 x b.1 i) b.2 in
+        G.antisym _ _ low (cancel G G.zero x x (subst (λ z. G.le z (G.plus x x)) (sym (G.unit x)) up))
+
     -- and each place in the reach has one
     pub reach_has : (v : ℕ) → Reach K net f u v → (y : K.group.Carrier) × At v y
     reach_has v r = let a = rises found.entries found.start.1 r.2.leads in (a.0, a.1)

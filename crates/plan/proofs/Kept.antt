@@ -2,13 +2,15 @@
 use Rattle.std.proofs.Common.{◌≡◌, ℕ, ◌<◌, Bool, true, false, cond, List, map, length, get_or, replicate, pos, ◌+ℤ◌, ◌-ℤ◌, neg_ℤ, ◌≤ℤ◌, sym, refl, ap, ◌∙◌, subst, ap₂, ⊎_elim, arith}
 use lib.ListN.{length-replicate, get_or-replicate, length-map}
 use Rattle.std.proofs.lemmas.Int.{ints}
-use Rattle.std.proofs.lemmas.Bool.{cases_eq}
+use Rattle.std.proofs.lemmas.Bool.{both_ways, cases_eq}
 use Rattle.costs.specs.Kind.{Kind}
 use Rattle.networks.specs.Net.{Net}
 use Rattle.plan.specs.Loads.{leaving}
 use Rattle.plan.specs.Steps.{Losing}
+use Rattle.plan.specs.declared.calls.Answer.{Answer}
+use Rattle.plan.specs.declared.calls.Call.{Call}
 use Rattle.plan.specs.State.{State, rest}
-use Rattle.plan.specs.Rules.{move}
+use Rattle.plan.specs.Rules.{move, Rule, open_refused, open_losing, open_accepted, book_refused, book_accepted, route_refused, route_settled, route_blocked, route_sent, settle_refused, settle_ran}
 use Rattle.plan.specs.Standing.{Passed, Standing}
 use Rattle.plan.proofs.Flow as flow
 use Rattle.costs.specs.Whole.{whole_group}
@@ -18,8 +20,8 @@ use Rattle.plan.proofs.Bridge.{way_of, seen, joined_seen, seen_potential, seen_k
 use Rattle.plan.proofs.Cheapest.{has_potential}
 use Rattle.plan.proofs.Moves.{here, away, move_at, move_long, move_all, rests_is}
 use Rattle.plan.proofs.Send.{spot}
-use Rattle.plan.proofs.Faults.{Bookable}
-use Rattle.plan.proofs.Standing.{inside, level}
+use Rattle.plan.proofs.Faults.{open_shut, Bookable, bookable}
+use Rattle.plan.proofs.Standing.{inside, level, sends_stands, repeats_stands}
 
 cond_same : (b : Bool) (n : ℕ) → n ≡ 0 → cond b n 0 ≡ 0
 cond_same true n e = e
@@ -104,3 +106,17 @@ module _ {C R : Type 0} (K : Kind C R) (net : Net C) where
       lowest = λ v l. (bounds v l).0;
       highest = λ v l. (bounds v l).1;
     }
+
+  -- what holds of an open plan lasts over every call
+  pub rule_stands : {s s' : State} {work : ℕ} {c : Call} {a : Answer} → Standing K net s → Rule K net work s c a s' → Standing K net s'
+  rule_stands stands (open_refused s r e) = stands
+  rule_stands stands (open_losing s e l) = stands
+  rule_stands stands (open_accepted s e n) = absurd (both_ways s.open? (open_shut K net s _ e) stands.opened)
+  rule_stands stands (book_refused s from to amount r e) = stands
+  rule_stands stands (book_accepted s from to amount e) = booked_stands from to amount (bookable net s from to amount e) stands
+  rule_stands stands (route_refused s r e) = stands
+  rule_stands stands (route_settled s e r) = stands
+  rule_stands stands (route_blocked s u e r) = stands
+  rule_stands stands (route_sent s s' u t x e r) = sends_stands K net stands r
+  rule_stands stands (settle_refused s budget r e) = stands
+  rule_stands stands (settle_ran s s' budget n z e l r ends) = repeats_stands K net stands r

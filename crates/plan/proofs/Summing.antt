@@ -23,6 +23,12 @@ module _ {C R : Type 0} (K : Kind C R) (net : Net C) (f : List ℕ) where
     pub so_far : K.group.plus (K.value c) (costs K (drop k net.ways) (drop k f)) ≡ costs K net.ways f
     pub weight : K.weighs c ≤ k * 1000000000000
 
+  pub summed_none : (c : C) → K.value c ≡ K.group.zero → Summed 0 c
+  summed_none c e = record {
+    so_far = ap (λ z. K.group.plus z (costs K net.ways f)) e ∙ K.group.unit _;
+    weight = omega (arith, K.zero_weighs c e);
+  }
+
   pub summed_all : (k : ℕ) (c : C) → length net.ways ≤ k → Summed k c → K.value c ≡ costs K net.ways f
   summed_all k c l s = sym (unit_of K.group (K.value c)) ∙ ap (λ ws. K.group.plus (K.value c) (costs K ws (drop k f))) (sym (drop_all k net.ways l)) ∙ s.so_far
 

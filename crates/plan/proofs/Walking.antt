@@ -1,10 +1,12 @@
--- Walks: one after another, one step more at the end, and the last step apart.
-use Rattle.std.proofs.Common.{◌≡◌, ℕ, suc, ◌≤◌, List, [], ◌∷◌, ◌++◌, length, sym, refl, ap, ◌∙◌, subst}
+-- Walks: one after another, one step more at the end, the last step apart, and the places met.
+use Rattle.std.proofs.Common.{◌≡◌, ℕ, suc, ◌<◌, ◌≤◌, List, [], ◌∷◌, ◌++◌, length, Some, sym, refl, ap, ◌∙◌, subst}
+use Rattle.std.specs.List.{slice_get, AllByRecursion}
 use Rattle.costs.specs.Group.{Group}
 use Rattle.costs.specs.Kind.{Kind}
-use Rattle.networks.specs.Net.{Net}
+use Rattle.networks.specs.Net.{Net, Way}
 use Rattle.plan.specs.declared.step.Step.{Step}
 use Rattle.plan.specs.Steps.{Gives, Leads}
+use Rattle.plan.specs.Steps.Gives.{forth, behind}
 use Rattle.plan.specs.Steps.Leads.{there, then}
 use Rattle.plan.proofs.Flow.{unit_of}
 
@@ -72,3 +74,13 @@ module _ {C R : Type 0} (K : Kind C R) (net : Net C) (loads : List ℕ) where
             long = ap suc q.long;
             sum = ap (G.plus c) q.sum ∙ sym (G.assoc c q.cost q.more);
           }
+
+  -- every place that a walk meets is an end of a way
+  module _ (n : ℕ) (ends : (k : ℕ) (w : Way C) → slice_get net.ways k ≡ Some w → (w.tail < n) × (w.head < n)) where
+    gives_within : {s : Step} {u v : ℕ} {c : G.Carrier} {r : ℕ} → Gives K net loads s u v c r → v < n
+    gives_within (forth k w known space) = (ends k w known).1
+    gives_within (behind k w known loaded) = (ends k w known).0
+
+    pub leads_within : {x u v : ℕ} {ss : List Step} {vs : List ℕ} {c : G.Carrier} → Leads K net loads x u ss vs v c → AllByRecursion (λ y. y < n) vs
+    leads_within (there u) = tt
+    leads_within (then u v w s ss vs c d r g l p) = (gives_within g, leads_within p)

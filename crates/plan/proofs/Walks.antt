@@ -5,7 +5,7 @@ use Rattle.costs.specs.Kind.{Kind}
 use Rattle.networks.specs.Net.{Net}
 use Rattle.plan.specs.declared.step.Step.{Step}
 use Rattle.plan.specs.State.{State}
-use Rattle.plan.specs.Steps.{Gives, forth, behind, Leads, there, then, Route, Least, Losing}
+use Rattle.plan.specs.Steps.{Gives, forth, behind, Leads, there, then, Route, Least, Price, Losing}
 use Rattle.plan.specs.Standing.{Inside, Potential, Standing}
 use Rattle.plan.proofs.Flow.{price_of}
 use Rattle.plan.proofs.Bridge.{seen, joined_seen, potential_seen, given, led, routed, route, losing_cheap, cheap_losing}
@@ -82,9 +82,12 @@ module _ {C R : Type 0} (K : Kind C R) (net : Net C) (f : List ℕ) where
       (λ r. absurd (less r.steps r.route.met r.cost (route_short ends l r.route) r.route.leads r.cheaper))
       (cut_down walk)
 
-  -- there is one least cost
+  -- there is one least cost, and one price
   pub one_least : {u v : ℕ} {c d : K.group.Carrier} → Least K net f u v c → Least K net f u v d → c ≡ d
   one_least p q = K.group.antisym _ _ (p.least _ _ q.taken.1) (q.least _ _ p.taken.1)
+
+  pub one_price : {v : ℕ} {c d : K.group.Carrier} → Price K net f v c → Price K net f v d → c ≡ d
+  one_price p q = K.group.antisym _ _ (p.least _ _ _ q.taken.2 q.taken.3) (q.least _ _ _ p.taken.2 p.taken.3)
 
 -- no ring of an open plan costs less than zero
 pub stands_sound : {C R : Type 0} (K : Kind C R) (net : Net C) {s : State} → Standing K net s → Losing K net s.loads → ⊥
