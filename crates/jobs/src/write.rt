@@ -111,6 +111,14 @@ impl Entry {
     pub fn write(self, table: &mut [u8], offset: usize) -> Result<usize, Refusal>
         ensures { Writes (record_of self) table.old offset result table.new }
     {
-        put(table, offset, self.bytes().as_slice())
+        match self {
+            // A record without a body is its kind byte: put as one byte, it takes no call to copy it, and what is left has a length of five or more.
+            Entry::Route | Entry::Total | Entry::Prices => put(
+                table,
+                offset,
+                &[u8::from(self.kind())],
+            ),
+            _ => put(table, offset, self.bytes().as_slice()),
+        }
     }
 }
